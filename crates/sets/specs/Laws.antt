@@ -1,0 +1,56 @@
+-- What is promised of sets and operations; the proofs are in proofs/. Assumes nothing.
+use mathlib.Core.Path.{_≡_}
+use mathlib.Core.List.{List, List·Memᴰ}
+use Prim.Native.Nat.{ℕ, _<_, _≤_, _^_}
+use lib.Bits.{bitAnd, bitOr}
+use Rattle.sets.specs.declared.Argument.{Argument}
+use Rattle.sets.specs.declared.Op.{Op}
+use Rattle.sets.specs.declared.Op.the-variants.{Constant, Own, JoinConstant, MeetConstant, Join, Meet, IfAll, IfMany, JoinOwn}
+use Rattle.sets.specs.Members.{_⊑_, membersOf, countOf}
+use Rattle.sets.specs.Operations.{valueOf}
+use Rattle.sets.specs.Arguments.{argumentsOf, valueAt}
+
+-- ⊑ is a partial order with the empty set below all, and the members in both and the join are its glb and lub
+pub record Lattice : Type 0 where
+  pub reflexive : (a : ℕ) → a ⊑ a
+  pub transitive : {a b c : ℕ} → a ⊑ b → b ⊑ c → a ⊑ c
+  pub antisymmetric : {a b : ℕ} → a ⊑ b → b ⊑ a → a ≡ b
+  pub bottom : (a : ℕ) → 0 ⊑ a
+  pub glb-left : (a b : ℕ) → bitAnd a b ⊑ a
+  pub glb-right : (a b : ℕ) → bitAnd a b ⊑ b
+  pub glb-greatest : {a b c : ℕ} → c ⊑ a → c ⊑ b → c ⊑ bitAnd a b
+  pub lub-left : (a b : ℕ) → a ⊑ bitOr a b
+  pub lub-right : (a b : ℕ) → b ⊑ bitOr a b
+  pub lub-least : {a b c : ℕ} → a ⊑ c → b ⊑ c → bitOr a b ⊑ c
+
+-- the member count grows with a set, strictly where the set does; 64 at most; and so does what operation 7 compares
+pub record Counted : Type 0 where
+  pub grows : {a b : ℕ} → a ⊑ b → membersOf a ≤ membersOf b
+  pub strictly : {a b : ℕ} → a ⊑ b → (a ≡ b → ⊥) → membersOf a < membersOf b
+  pub most : (a : ℕ) → a < 2 ^ 64 → membersOf a ≤ 64
+  pub compared : {a b : ℕ} → a ⊑ b → countOf a ≤ countOf b
+
+-- each operation never loses members when what it reads gains some
+abbrev pub Gains : Type 0
+Gains = (op : Op) (own : ℕ) (f g : Argument → ℕ) → ((x : Argument) → List·Memᴰ x (argumentsOf op) → f x ⊑ g x) → valueAt op own f ⊑ valueAt op own g
+
+-- its value looks at nothing else than what it reads
+abbrev pub Local : Type 0
+Local = (op : Op) (own : ℕ) (f g : Argument → ℕ) → ((x : Argument) → List·Memᴰ x (argumentsOf op) → f x ≡ g x) → valueAt op own f ≡ valueAt op own g
+
+-- the constant of an operation, 0 where it has none
+abbrev pub constantOf : Op → ℕ
+constantOf (Constant c) = c
+constantOf Own = 0
+constantOf (JoinConstant a c) = c
+constantOf (MeetConstant a c) = c
+constantOf (Join a b) = 0
+constantOf (Meet a b) = 0
+constantOf (IfAll a b c) = c
+constantOf (IfMany a b c) = c
+constantOf (JoinOwn a) = 0
+
+-- a value stays a set of 64 codes where the constant, the own set and what is read are
+abbrev pub Fits : Type 0
+Fits = (op : Op) (own : ℕ) (f : Argument → ℕ) → constantOf op < 2 ^ 64 → own < 2 ^ 64
+    → ((x : Argument) → List·Memᴰ x (argumentsOf op) → f x < 2 ^ 64) → valueAt op own f < 2 ^ 64

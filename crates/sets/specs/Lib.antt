@@ -1,0 +1,4 @@
+pub mod Members
+pub mod Operations
+pub mod Arguments
+pub mod Laws

@@ -1,0 +1,25 @@
+-- The value of each operation: own is the left node's own set, a and b are the values of its arguments. Assumes nothing.
+use mathlib.Core.Bool.{Bool, cond}
+use Prim.Native.Nat.{ℕ}
+use lib.Dec.{leb, eqb}
+use lib.Bits.{bitAnd, bitOr}
+use Rattle.sets.specs.declared.Op.{Op}
+use Rattle.sets.specs.declared.Op.the-variants.{Constant, Own, JoinConstant, MeetConstant, Join, Meet, IfAll, IfMany, JoinOwn}
+use Rattle.sets.specs.Members.{countOf}
+
+-- every member of c is in a
+abbrev pub within : ℕ → ℕ → Bool
+within c a = eqb (bitAnd c a) c
+
+-- the table of operations: 0 c; 1 the own set of the left node; 2 a joined with c; 3 members of a also in c; 4 a joined with b;
+-- 5 members in both a and b; 6 b if every member of c is in a, else empty; 7 b if a has at least c members, else empty; 8 a joined with the own set
+unfoldable pub valueOf : Op → ℕ → ℕ → ℕ → ℕ
+valueOf (Constant c) own a b = c
+valueOf Own own a b = own
+valueOf (JoinConstant _ c) own a b = bitOr a c
+valueOf (MeetConstant _ c) own a b = bitAnd a c
+valueOf (Join _ _) own a b = bitOr a b
+valueOf (Meet _ _) own a b = bitAnd a b
+valueOf (IfAll _ _ c) own a b = cond (within c a) b 0
+valueOf (IfMany _ _ c) own a b = cond (leb c (countOf a)) b 0
+valueOf (JoinOwn _) own a b = bitOr a own
