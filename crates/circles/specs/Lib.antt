@@ -1,0 +1,4 @@
+pub mod Graph
+pub mod Ranked
+pub mod Arrays
+pub mod Example

@@ -1,0 +1,2 @@
+// Circles.
+pub fn nothing() {}
