@@ -1,0 +1,27 @@
+-- The table of cases holds, by computation on the definitions. Assumes nothing.
+use mathlib.Core.Path.{_≡_, refl}
+use lib.ListN.{replicate}
+use lib.Count.{ones}
+use Rattle.sets.specs.Operations.{valueOf}
+use Rattle.sets.specs.Arguments.{argumentsOf}
+use Rattle.table.specs.First.{first, row, someBelow}
+use Rattle.table.specs.Words.{symbolCount, productionCount, synthesized, inherited, leftOf, childCount, childOf, childrenFrom, hasSet, occurs, ruleOf, headAt, constantAt}
+use Rattle.table.specs.Equations.{opNumber, aField, bField, argument, opOf, equationAt, usesA, usesB, usesC, misformed}
+use Rattle.table.specs.Judge.{partOf, frames, misnamed, refusalAt, judgeTable}
+use Rattle.table.specs.Example.{tableA}
+use Rattle.tree.specs.Tree.{judgeNodes, judgeTree, size, childAt}
+use Rattle.tree.specs.Owner.{owner}
+use Rattle.tree.specs.Replace.{exchanged, part, formerly}
+use Rattle.circles.specs.Ranked.{keep, firstOf, upFrom, has, wider, widened, reaching, reachings, labelIn, labelsBy, labelsOf, circleOf, settled, ready, takeable, ranking, rankedBy, ranked, loneOf}
+use Rattle.climb.specs.Climb.{leastFrom}
+use Rattle.wire.specs.Instances.{declared, placeOf, ruleAt, opAt, named, argsAt, evalAt}
+use Rattle.update.specs.Records.{beyond, shut, emptyRecord, opened}
+use Rattle.update.specs.Memories.{filled, loaded, belowPoint, arranged, replaced}
+use Rattle.update.specs.Refusals.{short, loadRefusal, passes, replaceRefusal, stepRefusal}
+use Rattle.update.specs.Steps.{sownOf, dueOf, stores, survives, changedOf, roundNumber, fromOf, toOf, closedOf, roundRecord, roundMade, doneMade, dueFrom, stepOf}
+use Rattle.update.specs.Calls.{loadCall, replaceCall, stepCall}
+use Rattle.update.specs.Cases.{walk, blank, loadA, replaceA, cases, EveryCase}
+
+pub every-case : EveryCase
+unfolding ones valueOf argumentsOf first row someBelow symbolCount productionCount synthesized inherited leftOf childCount childOf childrenFrom hasSet occurs ruleOf headAt constantAt opNumber aField bField argument opOf equationAt usesA usesB usesC misformed partOf frames misnamed refusalAt judgeTable tableA judgeNodes judgeTree size childAt owner exchanged part formerly keep firstOf upFrom has wider widened reaching reachings labelIn labelsBy labelsOf circleOf settled ready takeable ranking rankedBy ranked loneOf leastFrom declared placeOf ruleAt opAt named argsAt evalAt beyond shut emptyRecord opened filled loaded belowPoint arranged replaced short loadRefusal passes replaceRefusal stepRefusal sownOf dueOf stores survives changedOf roundNumber fromOf toOf closedOf roundRecord roundMade doneMade dueFrom stepOf loadCall replaceCall stepCall walk blank loadA replaceA cases
+every-case = refl

@@ -1,0 +1,113 @@
+-- The engine's calls, each whole: for any table, tree, record and memory what it answers and what it leaves in the record and in every buffer.
+-- "A refusal returns its number and changes nothing lent." Assumes nothing.
+use mathlib.Core.Bool.{Bool, _&&_}
+use mathlib.Core.List.{List, [], _∷_}
+use Prim.Native.Nat.{ℕ, zero, suc, _+_, _-_, _*_}
+use lib.ListN.{length}
+use Rattle.refusal.specs.declared.Verdict.{Verdict}
+use Rattle.refusal.specs.Numbers.{numberOf}
+use Rattle.tree.specs.Replace.{part}
+use Rattle.circles.specs.Ranked.{ranked, keep, upFrom}
+use Rattle.climb.specs.System.{System, graphOf}
+use Rattle.wire.specs.Instances.{declared, system}
+use Rattle.update.specs.declared.Record.{Record}
+use Rattle.update.specs.declared.Open.the-variants.{Load, Replacement}
+use Rattle.update.specs.declared.Answer.{Answer}
+use Rattle.update.specs.declared.Answer.the-variants.{Round, Done, Refused as StepRefused}
+use Rattle.update.specs.declared.Run.{Run}
+use Rattle.update.specs.declared.Run.the-variants.{Paused, Finished, Refused as RunRefused}
+use Rattle.update.specs.declared.Reading.{Reading}
+use Rattle.update.specs.declared.Reading.the-variants.{Set, Refused as ReadRefused}
+use Rattle.update.specs.Records.{opened}
+use Rattle.update.specs.Memories.{Memory, nodesOf, ownsOf, loaded, replaced}
+use Rattle.update.specs.Refusals.{loadRefusal, replaceRefusal, stepRefusal, readRefusal}
+use Rattle.update.specs.Steps.{at, Outcome, round, done, Made, stepOf, Ending, paused, finished, Ran, runOf}
+
+-- ---- an answer is a refusal's number, or what was asked for
+
+pub data Said (A : Type 0) : Type 0 where
+  refused : ℕ → Said A
+  said : A → Said A
+
+-- what document 01's numbers and values are, of each answer
+abbrev pub answerSays : Answer → Said Outcome
+answerSays (Round least k size closed) = said (round least k size closed)
+answerSays (Done circles evaluations changed) = said (done circles evaluations changed)
+answerSays (StepRefused r) = refused (numberOf r)
+
+-- the rounds made and how the run ended
+pub record Ranged : Type 0 where
+  pub rounds : ℕ
+  pub ending : Ending
+
+abbrev pub runSays : Run → Said Ranged
+runSays (Paused n) = said (record { rounds = n; ending = paused })
+runSays (Finished n circles evaluations changed) = said (record { rounds = n; ending = finished circles evaluations changed })
+runSays (RunRefused r) = refused (numberOf r)
+
+abbrev pub readingSays : Reading → Said ℕ
+readingSays (Set v) = said v
+readingSays (ReadRefused r) = refused (numberOf r)
+
+-- ---- what a call comes to
+
+pub record Left (A : Type 0) : Type 0 where
+  pub answer : A
+  pub next : Record
+  pub memory : Memory
+
+-- a call whose refusal number is n: refused, with all as it was, or carried out
+abbrev pub unless : {A : Type 0} → ℕ → Record → Memory → Left (Said A) → Left (Said A)
+unless zero r m left = left
+unless (suc n) r m left = record { answer = refused (suc n); next = r; memory = m }
+
+-- load and replacement answer nothing but that the update is open
+pub data Opened : Type 0 where
+  is-open : Opened
+
+unfoldable pub loadCall : List ℕ → Memory → Record → List ℕ → List ℕ → Left (Said Opened)
+loadCall t m r ns owns =
+    unless (loadRefusal t m r ns owns) r m (record { answer = said is-open; next = opened Load (length ns) 0 (length ns); memory = loaded m ns owns })
+
+unfoldable pub replaceCall : List ℕ → Memory → Record → ℕ → List ℕ → List ℕ → Left (Said Opened)
+replaceCall t m r point new newOwns =
+    unless (replaceRefusal t m r point new newOwns) r m (record {
+      answer = said is-open;
+      next = opened Replacement (r .nodes - part t (nodesOf m (r .nodes)) point + length new) point (length new);
+      memory = replaced t m (r .nodes) point new newOwns;
+    })
+
+-- the system and the circles of the held tree
+abbrev pub systemOf : List ℕ → Memory → Record → System
+systemOf t m r = system t (nodesOf m (r .nodes)) (ownsOf m (r .nodes))
+
+abbrev pub circlesOf : List ℕ → Memory → Record → List (List ℕ)
+circlesOf t m r = ranked (graphOf (systemOf t m r))
+
+-- the memory with other sets
+abbrev pub withSets : Memory → List ℕ → Memory
+withSets m s = record { productions = m .productions; owns = m .owns; sets = s; before = m .before }
+
+abbrev pub stepLeft : Memory → Made → Left (Said Outcome)
+stepLeft m made = record { answer = said (made .outcome); next = made .next; memory = withSets m (made .sets) }
+
+unfoldable pub stepCall : List ℕ → Memory → Record → Left (Said Outcome)
+stepCall t m r = unless (stepRefusal t m r) r m (stepLeft m (stepOf (systemOf t m r) (circlesOf t m r) r (m .before) (m .sets)))
+
+abbrev pub runLeft : Memory → Ran → Left (Said Ranged)
+runLeft m ran = record { answer = said (record { rounds = ran .rounds; ending = ran .ending }); next = ran .next; memory = withSets m (ran .sets) }
+
+unfoldable pub runCall : List ℕ → Memory → Record → ℕ → Left (Said Ranged)
+runCall t m r budget = unless (stepRefusal t m r) r m (runLeft m (runOf (systemOf t m r) (circlesOf t m r) (m .before) budget r (m .sets)))
+
+-- reading changes nothing
+abbrev pub unlessRead : {A : Type 0} → ℕ → A → Said A
+unlessRead zero a = said a
+unlessRead (suc n) a = refused (suc n)
+
+unfoldable pub readCall : List ℕ → Memory → Record → ℕ → Said ℕ
+readCall t m r x = unlessRead (readRefusal t m r x) (at (m .sets) x)
+
+-- what a dump tells: each declared instance, rising
+unfoldable pub dumped : List ℕ → Memory → Record → List ℕ
+dumped t m r = keep (declared t (nodesOf m (r .nodes))) (upFrom 0 (8 * r .nodes))

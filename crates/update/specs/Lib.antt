@@ -1,0 +1,6 @@
+pub mod Records
+pub mod Memories
+pub mod Refusals
+pub mod Steps
+pub mod Calls
+pub mod Cases

@@ -1,0 +1,63 @@
+-- What each call refuses, in document 01's order: of a list of numbers the first that is not 0. Assumes nothing.
+use mathlib.Core.Bool.{Bool, cond, not, _||_}
+use mathlib.Core.List.{List, [], _∷_}
+use Prim.Native.Nat.{ℕ, _+_, _-_}
+use lib.Dec.{ltb, leb}
+use lib.ListN.{length, getD}
+use Rattle.table.specs.First.{first}
+use Rattle.table.specs.Words.{leftOf}
+use Rattle.table.specs.Judge.{judgeTable}
+use Rattle.tree.specs.Tree.{judgeTree}
+use Rattle.tree.specs.Replace.{part}
+use Rattle.wire.specs.Instances.{declared}
+use Rattle.update.specs.declared.Record.{Record}
+use Rattle.update.specs.Records.{nodesMost, isOpen, beyond}
+use Rattle.update.specs.Memories.{Memory, nodesOf, ownsOf}
+
+-- the first refusal of a list, 0 where there is none
+abbrev pub firstRefusal : List ℕ → ℕ
+firstRefusal l = first (λ (n : ℕ). n) l
+
+-- n where the condition holds
+abbrev pub when : Bool → ℕ → ℕ
+when b n = cond b n 0
+
+-- "15: a lent buffer for the held tree or its sets is shorter than 512 nodes or 4,096 sets"
+unfoldable pub short : Memory → Bool
+short m = ltb (length (m .productions)) 512 || ltb (length (m .owns)) 512 || ltb (length (m .sets)) 4096 || ltb (length (m .before)) 4096
+
+-- the held tree's number, 6 or 7
+abbrev pub heldRefusal : List ℕ → Memory → Record → ℕ
+heldRefusal t m r = judgeTree t (nodesOf m (r .nodes)) (ownsOf m (r .nodes)) 0
+
+-- "load 15, 1 to 5, 11, 10, 8, 6/7."
+unfoldable pub loadRefusal : List ℕ → Memory → Record → List ℕ → List ℕ → ℕ
+loadRefusal t m r ns owns =
+    firstRefusal (when (short m) 15 ∷ judgeTable t ∷ when (beyond r) 11 ∷ when (isOpen (r .«open»)) 10 ∷ when (ltb nodesMost (length ns)) 8 ∷ judgeTree t ns owns 0 ∷ [])
+
+-- "8: the tree would pass 512 nodes": with the new part in the place of r's subtree
+unfoldable pub passes : List ℕ → Memory → Record → ℕ → List ℕ → Bool
+passes t m r point new = ltb nodesMost (r .nodes - part t (nodesOf m (r .nodes)) point + length new)
+
+-- "Replacement 15, 1 to 5, 11, 10, 16, held tree 6/7, 9, 8, new part 6/7."
+unfoldable pub replaceRefusal : List ℕ → Memory → Record → ℕ → List ℕ → List ℕ → ℕ
+replaceRefusal t m r point new newOwns =
+    firstRefusal (when (short m) 15 ∷ judgeTable t ∷ when (beyond r) 11 ∷ when (isOpen (r .«open»)) 10 ∷ when (not (r .held)) 16 ∷ heldRefusal t m r
+    ∷ when (leb (r .nodes) point) 9 ∷ when (passes t m r point new) 8 ∷ judgeTree t new newOwns (leftOf t (getD (nodesOf m (r .nodes)) point 0)) ∷ [])
+
+-- "Step and run 15, 1 to 5, 11, 16, 6/7, 17."
+unfoldable pub stepRefusal : List ℕ → Memory → Record → ℕ
+stepRefusal t m r =
+    firstRefusal (when (short m) 15 ∷ judgeTable t ∷ when (beyond r) 11 ∷ when (not (r .held)) 16 ∷ heldRefusal t m r ∷ when (not (isOpen (r .«open»))) 17 ∷ [])
+
+-- "Reading 15, 1 to 5, 11, 10, 16, 6/7, 12; dump the same without 12, with 15 for its text last."
+abbrev pub lookRefusals : List ℕ → Memory → Record → ℕ → List ℕ
+lookRefusals t m r last =
+    when (short m) 15 ∷ judgeTable t ∷ when (beyond r) 11 ∷ when (isOpen (r .«open»)) 10 ∷ when (not (r .held)) 16 ∷ heldRefusal t m r ∷ last ∷ []
+
+unfoldable pub readRefusal : List ℕ → Memory → Record → ℕ → ℕ
+readRefusal t m r x = firstRefusal (lookRefusals t m r (when (not (declared t (nodesOf m (r .nodes)) x)) 12))
+
+-- `room` is the length of the buffer for the text, `wanted` the length of the text
+unfoldable pub dumpRefusal : List ℕ → Memory → Record → ℕ → ℕ → ℕ
+dumpRefusal t m r room wanted = firstRefusal (lookRefusals t m r (when (ltb room wanted) 15))

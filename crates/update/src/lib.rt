@@ -1,0 +1,91 @@
+// The update record that the caller lends, and what the engine's calls answer.
+use refusal::Refusal;
+ghost use mathlib.Core.Path.{_≡_};
+ghost use Rattle.update.specs.Records.{emptyRecord};
+
+// No update, load or replacement open.
+pub enum Open {
+    Nothing,
+    Load,
+    Replacement,
+}
+
+pub struct Record {
+    // tree held or not
+    pub held: bool,
+    pub open: Open,
+    // node count of the held tree
+    pub nodes: usize,
+    // point r and the new part's count; 0 and the node count for a load
+    pub point: usize,
+    pub part: usize,
+    // the rank of the circle at work, and its round
+    pub rank: usize,
+    pub round: u64,
+    // circles worked, and evaluations
+    pub circles: u64,
+    pub evaluations: u64,
+}
+
+impl Record {
+    pub const NODES: usize = 512;
+
+    pub const CIRCLES: u64 = 4_092;
+
+    pub const ROUND: u64 = 262_145;
+
+    pub const EVALUATIONS: u64 = 1_073_745_920;
+
+    // A record with no tree and no update.
+    pub fn empty() -> Self
+        ensures { λ r. ⌜ r ≡ emptyRecord ⌝ }
+    {
+        Record {
+            held: false,
+            open: Open::Nothing,
+            nodes: 0,
+            point: 0,
+            part: 0,
+            rank: 0,
+            round: 0,
+            circles: 0,
+            evaluations: 0,
+        }
+    }
+}
+
+// What a step answers: the round that it made, by its circle's least instance, or the numbers at done, or why not.
+pub enum Answer {
+    Round {
+        least: usize,
+        round: u64,
+        size: usize,
+        closed: bool,
+    },
+    Done {
+        circles: u64,
+        evaluations: u64,
+        changed: u64,
+    },
+    Refused(Refusal),
+}
+
+// What a run answers: the rounds made, and done's numbers if it came to done, or why not.
+pub enum Run {
+    Paused {
+        rounds: u64,
+    },
+    Finished {
+        rounds: u64,
+        circles: u64,
+        evaluations: u64,
+        changed: u64,
+    },
+    Refused(Refusal),
+}
+
+// What a reading answers.
+pub enum Reading {
+    Set(u64),
+    Refused(Refusal),
+}
