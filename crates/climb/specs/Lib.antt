@@ -1,2 +1,6 @@
 pub mod System
 pub mod Climb
+pub mod Inside
+pub mod Laws
+pub mod Ordered
+pub mod Kept

@@ -1,0 +1,6 @@
+pub mod Lists
+pub mod Systems
+pub mod Stages
+pub mod Rounds
+pub mod Solving
+pub mod Restriction
