@@ -4,3 +4,6 @@ pub mod Stages
 pub mod Rounds
 pub mod Solving
 pub mod Restriction
+pub mod Sums
+pub mod Working
+pub mod Finishing

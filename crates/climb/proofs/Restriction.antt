@@ -13,7 +13,7 @@ use Rattle.climb.specs.System.{Assignment, System, graphOf, Lawful, Leas
 use Rattle.climb.specs.Climb.{stage, Closed, roundsOf}
 use Rattle.climb.specs.Inside.{LawfulIn, Small}
 use Rattle.climb.specs.Laws.{Shuts, Takes}
-use Rattle.climb.specs.Kept.{Restricted, ClimbsAgain, Same, Outside, Renamed, Whole, RenamedRounds, RenamedWhole}
+use Rattle.climb.specs.Restrict.{Restricted, ClimbsAgain, Same, Outside, Renamed, Whole, RenamedRounds, RenamedWhole}
 use Rattle.climb.proofs.Lists.{either, member-of, member-in, member-map, map-member, only-member}
 use Rattle.climb.proofs.Systems.{lawful-inside}
 use Rattle.climb.proofs.Stages.{stage-in, stage-out, stage-below}

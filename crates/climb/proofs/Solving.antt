@@ -13,7 +13,7 @@ use Rattle.circles.specs.Ranked.{member, keep, upFrom}
 use Rattle.climb.specs.System.{Assignment, System, Lawful, Least}
 use Rattle.climb.specs.Climb.{stage, Closed, roundsOf}
 use Rattle.climb.specs.Inside.{Small}
-use Rattle.climb.specs.Ordered.{climbed, climbedAll, And, Next, Ordered, Covered, Circuit, CircuitLeast, bottom, ThereIsLeast, LeastClosed}
+use Rattle.climb.specs.Ordered.{climbed, climbedAll, And, Next, Ordered, Covered, InOrder, InOrderLeast, bottom, ThereIsLeast, LeastClosed}
 use Rattle.climb.proofs.Lists.{either, keep-is, keep-in, in-upFrom}
 use Rattle.climb.proofs.Systems.{local, lawful-inside}
 use Rattle.climb.proofs.Stages.{stage-out, stage-small, stage-below}
@@ -89,8 +89,8 @@ climbedAll-solved S L (C ∷ R) P v s o h =
     climbedAll-solved S L R (And P (member C)) (climbed S C v) (λ x. stage-small S (member C) v (lawful-inside S L (member C) .small) s (roundsOf S C v) x) (o .1)
     (solved-next S L P v (member C) (o .0) h (roundsOf S C v) (climbs S C v (lawful-inside S L (member C)) s .closed))
 
-pub circuit-least : CircuitLeast
-circuit-least S L R c v s =
+pub in-order-least : InOrderLeast
+in-order-least S L R c v s =
     solved-least S (Covered R (λ x. ⊥)) (climbedAll S R v) (c .declared) (c .covers) (climbedAll-solved S L R (λ x. ⊥) v s (c .ordered) (solved-none S v))
 
 -- ---- all instances as one circle
@@ -107,8 +107,8 @@ module _ (S : System) (L : Lawful S) where
   unfolding all
   all-in x h = keep-is (S .declared) (upFrom 0 (S .size)) x h
 
-  circuit-all : Circuit S (all ∷ [])
-  circuit-all = record {
+  order-all : InOrder S (all ∷ [])
+  order-all = record {
     ordered = (record { apart = λ x p. absurd p; reads = λ x h y m. inr (in-all y (L .closed x (all-in x h) y m)) }, tt);
     declared = λ x p. ⊎-elim (λ q. absurd q) (λ h. all-in x h) p;
     covers = λ x d. inr (in-all x d);
@@ -116,16 +116,16 @@ module _ (S : System) (L : Lawful S) where
 
   pub bottom-least : Least S (bottom S)
   unfolding bottom all
-  bottom-least = circuit-least S L (all ∷ []) circuit-all (λ x. 0) (λ x. lit< tt)
+  bottom-least = in-order-least S L (all ∷ []) order-all (λ x. 0) (λ x. lit< tt)
 
   bottom-solved : Solved S (Covered (all ∷ []) (λ x. ⊥)) (bottom S)
   unfolding bottom all
-  bottom-solved = climbedAll-solved S L (all ∷ []) (λ x. ⊥) (λ x. 0) (λ x. lit< tt) (circuit-all .ordered) (solved-none S (λ x. 0))
+  bottom-solved = climbedAll-solved S L (all ∷ []) (λ x. ⊥) (λ x. 0) (λ x. lit< tt) (order-all .ordered) (solved-none S (λ x. 0))
 
   least-closed′ : (v : Assignment) → Least S v → (w : Assignment)
       → ((x : ℕ) → S .declared x ≡ true → S .eval w x ⊑ w x) → (x : ℕ) → S .declared x ≡ true → v x ⊑ w x
   least-closed′ v l w pre x d = sub-trans (l .least (bottom S) (bottom-least .consistent) x d)
-      (bottom-solved .least w (λ y p. pre y (circuit-all .declared y p)) x (circuit-all .covers x d))
+      (bottom-solved .least w (λ y p. pre y (order-all .declared y p)) x (order-all .covers x d))
 
 pub there-is-least : ThereIsLeast
 there-is-least S L = bottom-least S L

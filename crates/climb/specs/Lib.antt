@@ -3,4 +3,6 @@ pub mod Climb
 pub mod Inside
 pub mod Laws
 pub mod Ordered
-pub mod Kept
+pub mod Restrict
+pub mod Circuit
+pub mod CircuitLaws

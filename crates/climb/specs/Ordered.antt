@@ -40,14 +40,14 @@ Covered [] P = P
 Covered (C ∷ R) P = Covered R (And P (member C))
 
 -- a list of circles that are in order and have the declared instances between them
-pub record Circuit (S : System) (R : List (List ℕ)) : Type 0 where
+pub record InOrder (S : System) (R : List (List ℕ)) : Type 0 where
   pub ordered : Ordered S R (λ x. ⊥)
   pub declared : (x : ℕ) → Covered R (λ x. ⊥) x → S .declared x ≡ true
   pub covers : (x : ℕ) → S .declared x ≡ true → Covered R (λ x. ⊥) x
 
 -- "Circle by circle is least." From any values, and whether or not the members of a circle reach each other
-abbrev pub CircuitLeast : Type 0
-CircuitLeast = (S : System) → Lawful S → (R : List (List ℕ)) → Circuit S R → (v : Assignment) → Small v → Least S (climbedAll S R v)
+abbrev pub InOrderLeast : Type 0
+InOrderLeast = (S : System) → Lawful S → (R : List (List ℕ)) → InOrder S R → (v : Assignment) → Small v → Least S (climbedAll S R v)
 
 -- all instances as one circle, climbed from nothing
 unfoldable pub bottom : System → Assignment
