@@ -1,0 +1,9 @@
+pub mod Lists
+pub mod Systems
+pub mod Stages
+pub mod Rounds
+pub mod Solving
+pub mod Restriction
+pub mod Sums
+pub mod Working
+pub mod Finishing
