@@ -4,9 +4,10 @@ use mathlib.Core.List.{List, [], _∷_}
 use Prim.Native.Nat.{ℕ, zero, suc, _+_, _-_, min}
 use lib.Dec.{eqb, ltb, leb}
 use lib.ListN.{length, getD, set}
-use Rattle.circles.specs.Ranked.{member, anyOf, allOf, keep, upFrom, loneOf}
+use Rattle.circles.specs.Ranked.{allOf, keep, upFrom, loneOf}
 use Rattle.climb.specs.System.{Assignment, System, graphOf}
 use Rattle.climb.specs.Climb.{leastFrom}
+use Rattle.climb.specs.Circuit.{circleAt, dueOf}
 use Rattle.wire.specs.Instances.{nodeOf, indexOf}
 use Rattle.update.specs.declared.Record.{Record}
 use Rattle.update.specs.Records.{circlesMost, roundMost, evaluationsMost, isLoad, shut, working}
@@ -16,17 +17,9 @@ use Rattle.update.specs.Memories.{belowPoint}
 abbrev pub at : List ℕ → Assignment
 at l x = getD l x 0
 
--- the circle of rank i
-abbrev pub circleAt : List (List ℕ) → ℕ → List ℕ
-circleAt R i = getD R i []
-
 -- "Sown instances: r's synthesized ones and all below r; in a load, all."
 unfoldable pub sownOf : Record → ℕ → Bool
 sownOf r x = isLoad (r .«open») || (eqb (nodeOf x) (r .point) && ltb (indexOf x) 4) || belowPoint (r .point) (r .part) (nodeOf x)
-
--- "A circle is due if it has a sown instance, or an argument outside itself whose value differs from its before value."
-unfoldable pub dueOf : System → (ℕ → Bool) → Assignment → Assignment → List ℕ → Bool
-dueOf S sown before v C = anyOf (λ x. sown x || anyOf (λ y. not (member C y) && not (eqb (v y) (before y))) (S .args x)) C
 
 -- l with the sets of the members of C replaced by those of g
 unfoldable pub stores : List ℕ → List ℕ → Assignment → List ℕ
