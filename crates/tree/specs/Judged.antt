@@ -10,11 +10,11 @@ use Rattle.tree.specs.Tree.{judgeNodes}
 -- row of subtrees, one for each symbol
 mutual
   pub data Subtree (t : List ℕ) : ℕ → List ℕ → Type 0 where
-    node : {p : ℕ} {ns : List ℕ} → p < productionCount t → Row t (children t p) ns → Subtree t (leftOf t p) (p ∷ ns)
+    node : {p s : ℕ} {ns : List ℕ} → p < productionCount t → leftOf t p ≡ s → Row t (children t p) ns → Subtree t s (p ∷ ns)
 
   pub data Row (t : List ℕ) : List ℕ → List ℕ → Type 0 where
     none : Row t [] []
-    more : {s : ℕ} {wanted ms ns : List ℕ} → Subtree t s ms → Row t wanted ns → Row t (s ∷ wanted) (ms ++ ns)
+    more : {s : ℕ} {wanted ms ns all : List ℕ} → Subtree t s ms → Row t wanted ns → all ≡ ms ++ ns → Row t (s ∷ wanted) all
 
 -- nodes are read in preorder while each is of the symbol wanted there: of the symbols `wanted` at first, `left` are still wanted behind the nodes
 pub data Good (t : List ℕ) : List ℕ → List ℕ → List ℕ → Type 0 where
