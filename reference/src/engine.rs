@@ -6,7 +6,7 @@ use crate::circles::Circles;
 use crate::frames::{Done, Node, Round};
 use crate::ranks::Ranks;
 use crate::refusal::Refusal;
-use crate::sets::Set;
+use crate::sets::{Formula, Set};
 use crate::table::Table;
 use crate::tree::{judge, NODES};
 use crate::wiring::{Place, Wiring};
@@ -223,20 +223,13 @@ impl Engine {
     /// whether anything altered.
     fn round(&mut self) -> bool {
         let members = self.ranks.circle(self.update.rank).unwrap_or_default();
-        let (wiring, sets) = (&self.wiring, &mut self.sets);
-        self.computed.clear();
-        self.computed.extend(members.iter().map(|&member| {
-            wiring
-                .formula(member)
-                .value(|argument| sets[usize::from(argument)])
-        }));
-        let mut altered = false;
-        for (&member, &value) in members.iter().zip(&self.computed) {
-            let set = &mut sets[usize::from(member)];
-            altered |= *set != value;
-            *set = value;
-        }
-        altered
+        compute(
+            members,
+            self.wiring.formulas(),
+            &self.sets,
+            &mut self.computed,
+        );
+        store(members, &self.computed, &mut self.sets)
     }
 
     /// Closes the circle at work: whoever reads a member that isn't as before becomes due.
@@ -257,4 +250,21 @@ impl Engine {
         self.update.rank += 1;
         self.update.round = 0;
     }
+}
+
+fn compute(members: &[Place], formulas: &[Formula<Place>], sets: &[Set], to: &mut Vec<Set>) {
+    to.clear();
+    to.extend(members.iter().map(|&member| {
+        formulas[usize::from(member)].value(|argument| sets[usize::from(argument)])
+    }));
+}
+
+fn store(members: &[Place], values: &[Set], sets: &mut [Set]) -> bool {
+    let mut altered = false;
+    for (&member, &value) in members.iter().zip(values) {
+        let set = &mut sets[usize::from(member)];
+        altered |= *set != value;
+        *set = value;
+    }
+    altered
 }

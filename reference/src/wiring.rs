@@ -65,8 +65,8 @@ impl Wiring {
         &self.instance
     }
 
-    pub fn formula(&self, place: Place) -> Formula<Place> {
-        self.formula[usize::from(place)]
+    pub fn formulas(&self) -> &[Formula<Place>] {
+        &self.formula
     }
 
     pub fn reads(&self) -> &[[Place; 2]] {
