@@ -3,31 +3,39 @@
 //! Tarjan's walk along what each place reads. It keeps its own path instead of calling itself,
 //! since a path may be as long as there are places.
 
-use crate::wiring::{Place, NOWHERE};
+use crate::rows::{Place, Row, NOWHERE};
+use crate::sets::Formula;
+
+/// Circles are numbered as they are found.
+pub type Circle = u16;
 
 /// Seen times begin at 1.
 const UNSEEN: u16 = 0;
 /// The seen time of a place whose circle is found: no path counts as earlier through it.
 const FOUND: u16 = u16::MAX;
 
-/// A place on the path and how many of its arguments have been looked at.
+/// A place on the path.
+#[derive(Clone, Copy)]
 struct Visit {
     place: Place,
-    looked: usize,
+    /// The arguments that are still to be looked at.
+    next: Place,
+    then: Place,
+    /// The earliest seen time that the place is known to reach.
+    low: u16,
 }
 
-/// Circles go by their least place, their label.
 #[derive(Default)]
 pub struct Circles {
-    label: Vec<Place>,
-    /// The members of all circles, those of one circle side by side.
+    /// By place: its circle.
+    of: Row<Circle>,
+    /// The members of all circles, those of one circle side by side: a round walks over its
+    /// circle and over nothing else.
     members: Vec<Place>,
-    /// By label: where the circle's members start and how many there are.
-    start: Vec<u16>,
-    size: Vec<u16>,
-    seen: Vec<u16>,
-    /// The earliest seen time that a place is known to reach.
-    low: Vec<u16>,
+    /// By circle: where its members end, and the least of them.
+    ends: Vec<Place>,
+    least: Vec<Place>,
+    seen: Row<u16>,
     clock: u16,
     path: Vec<Visit>,
     /// Places seen whose circle isn't found yet, in the order they were seen.
@@ -35,98 +43,85 @@ pub struct Circles {
 }
 
 impl Circles {
-    pub fn rebuild(&mut self, reads: &[[Place; 2]]) {
-        let places = reads.len();
-        self.label.resize(places, NOWHERE);
-        self.start.resize(places, 0);
-        self.size.resize(places, 0);
-        self.low.resize(places, 0);
-        self.seen.clear();
-        self.seen.resize(places, UNSEEN);
+    pub fn rebuild(&mut self, formulas: &Row<Formula<Place>>, places: Place) {
+        self.of.reach(places, 0);
         self.members.clear();
+        self.ends.clear();
+        self.least.clear();
+        self.seen.clear(places, UNSEEN);
         self.clock = UNSEEN;
-        for place in 0..places as Place {
-            if self.seen[usize::from(place)] == UNSEEN {
-                self.walk(reads, place);
+        for place in 0..places {
+            if self.seen[place] == UNSEEN {
+                self.walk(formulas, place);
             }
         }
     }
 
-    /// The least place of the circle that a place is in.
-    pub fn label(&self, place: Place) -> Place {
-        self.label[usize::from(place)]
+    pub fn count(&self) -> Circle {
+        self.least.len() as Circle
     }
 
-    pub fn labels(&self) -> &[Place] {
-        &self.label
+    /// The circle that a place is in.
+    pub fn of(&self, place: Place) -> Circle {
+        self.of[place]
     }
 
-    pub fn members(&self, label: Place) -> &[Place] {
-        let start = usize::from(self.start[usize::from(label)]);
-        &self.members[start..start + usize::from(self.size[usize::from(label)])]
+    pub fn least(&self, circle: Circle) -> Place {
+        self.least[usize::from(circle)]
     }
 
-    fn walk(&mut self, reads: &[[Place; 2]], seed: Place) {
-        self.enter(seed);
-        while let Some(visit) = self.path.last_mut() {
-            let place = visit.place;
-            let argument = reads[usize::from(place)].get(visit.looked);
-            match argument {
-                Some(&argument) if argument != NOWHERE => {
-                    visit.looked += 1;
-                    self.look(place, argument);
+    pub fn members(&self, circle: Circle) -> &[Place] {
+        let at = usize::from(circle);
+        let start = if at == 0 { 0 } else { self.ends[at - 1] };
+        &self.members[usize::from(start)..usize::from(self.ends[at])]
+    }
+
+    fn walk(&mut self, formulas: &Row<Formula<Place>>, seed: Place) {
+        let mut visit = self.enter(formulas, seed);
+        loop {
+            let argument = visit.next;
+            if argument != NOWHERE {
+                visit.next = visit.then;
+                visit.then = NOWHERE;
+                match self.seen[argument] {
+                    UNSEEN => {
+                        self.path.push(visit);
+                        visit = self.enter(formulas, argument);
+                    }
+                    seen => visit.low = seen.min(visit.low),
                 }
-                _ => {
-                    self.path.pop();
-                    self.leave(place);
-                }
+                continue;
             }
+            if visit.low == self.seen[visit.place] {
+                self.close(visit.place);
+            }
+            let Some(reader) = self.path.pop() else { return };
+            visit = Visit { low: visit.low.min(reader.low), ..reader };
         }
     }
 
-    fn enter(&mut self, place: Place) {
+    fn enter(&mut self, formulas: &Row<Formula<Place>>, place: Place) -> Visit {
         self.clock += 1;
-        self.seen[usize::from(place)] = self.clock;
-        self.low[usize::from(place)] = self.clock;
-        self.path.push(Visit { place, looked: 0 });
+        self.seen[place] = self.clock;
         self.open.push(place);
-    }
-
-    fn look(&mut self, place: Place, argument: Place) {
-        match self.seen[usize::from(argument)] {
-            UNSEEN => self.enter(argument),
-            seen => self.lower(place, seen),
-        }
-    }
-
-    fn lower(&mut self, place: Place, time: u16) {
-        let low = &mut self.low[usize::from(place)];
-        *low = time.min(*low);
-    }
-
-    fn leave(&mut self, place: Place) {
-        let low = self.low[usize::from(place)];
-        if low == self.seen[usize::from(place)] {
-            self.close(place);
-        } else if let Some(parent) = self.path.last() {
-            self.lower(parent.place, low);
-        }
+        let Formula { a, b, .. } = formulas[place];
+        Visit { place, next: a, then: b, low: self.clock }
     }
 
     /// All that was seen since the root and is still open is the root's circle.
     fn close(&mut self, root: Place) {
-        let mut from = self.open.len() - 1;
-        let mut least = self.open[from];
-        while self.open[from] != root {
-            from -= 1;
-            least = least.min(self.open[from]);
-        }
-        self.start[usize::from(least)] = self.members.len() as u16;
-        self.size[usize::from(least)] = (self.open.len() - from) as u16;
-        for place in self.open.drain(from..) {
-            self.seen[usize::from(place)] = FOUND;
-            self.label[usize::from(place)] = least;
+        let circle = self.count();
+        let mut least = root;
+        while let Some(place) = self.open.pop() {
+            self.seen[place] = FOUND;
+            self.of[place] = circle;
             self.members.push(place);
+            least = least.min(place);
+            if place == root {
+                break;
+            }
         }
+        self.ends.push(self.members.len() as Place);
+        self.least.push(least);
     }
 }

@@ -2,14 +2,15 @@
 
 use std::ops::Range;
 
-use crate::circles::Circles;
+use crate::circles::{Circle, Circles};
 use crate::frames::{Done, Node, Round};
 use crate::ranks::Ranks;
 use crate::refusal::Refusal;
+use crate::rows::{Place, Row};
 use crate::sets::{Formula, Set};
 use crate::table::Table;
 use crate::tree::{judge, NODES};
-use crate::wiring::{Place, Wiring};
+use crate::wiring::Wiring;
 
 /// The nodes that a command hands in. Those behind the limit are counted and not kept: such a
 /// part is refused whatever they say.
@@ -43,9 +44,9 @@ pub struct Engine {
     wiring: Wiring,
     circles: Circles,
     ranks: Ranks,
-    sets: Vec<Set>,
+    sets: Row<Set>,
     update: Update,
-    /// By label: whether the circle is due.
+    /// By circle: whether it is due.
     due: Vec<bool>,
     /// What the members of the circle at work had before the update. Only worked circles
     /// alter, so nothing else needs a before value.
@@ -59,10 +60,10 @@ impl Engine {
         Engine {
             table,
             nodes: Vec::new(),
-            wiring: Wiring::default(),
+            wiring: Wiring::new(),
             circles: Circles::default(),
             ranks: Ranks::default(),
-            sets: Vec::new(),
+            sets: Row::new(),
             update: Update::default(),
             due: Vec::new(),
             before: Vec::new(),
@@ -77,9 +78,8 @@ impl Engine {
         judge(&self.table, 0, &part.nodes)?;
         self.nodes.clone_from(&part.nodes);
         self.rewire();
-        self.sets.clear();
-        self.sets.resize(self.wiring.places(), 0);
-        self.open(0..self.wiring.places() as Place);
+        self.sets.clear(self.wiring.places(), 0);
+        self.open(0..self.wiring.places());
         Ok(())
     }
 
@@ -92,18 +92,14 @@ impl Engine {
         if self.nodes.len() - (end - point) + part.count > NODES {
             return Err(Refusal::TooManyNodes);
         }
-        judge(
-            &self.table,
-            self.table.production_of(&root).left,
-            &part.nodes,
-        )?;
+        judge(&self.table, self.table.production_of(&root).left, &part.nodes)?;
         let old = self.below(point..end);
+        let places = self.wiring.places();
         self.nodes.splice(point..end, part.nodes.iter().copied());
         self.rewire();
         let new = self.below(point..point + part.count);
-        let empty = std::iter::repeat_n(0, new.len());
-        self.sets
-            .splice(usize::from(old.start)..usize::from(old.end), empty);
+        self.shift(old.end..places, new.end);
+        self.sets.part_mut(new.start, new.end).fill(0);
         self.open(new);
         self.sow(self.synthesized(point));
         Ok(())
@@ -111,38 +107,27 @@ impl Engine {
 
     /// One round of the first due circle, or done.
     pub fn step(&mut self) -> Step {
-        let Some(label) = self.next_due() else {
-            let Update {
-                circles,
-                evaluations,
-                changed,
-                ..
-            } = self.update;
-            return Step::Done(Done {
-                circles,
-                evaluations,
-                changed,
-            });
+        let Some(circle) = self.next_due() else {
+            let Update { circles, evaluations, changed, .. } = self.update;
+            return Step::Done(Done { circles, evaluations, changed });
         };
-        let lone = self.circles.members(label).len() == 1 && !self.wiring.reads_itself(label);
-        if self.update.round == 0 {
-            self.begin(lone);
-        }
-        let altered = self.round();
-        let size = self.before.len() as u16;
+        let least = self.circles.least(circle);
+        let size = self.circles.members(circle).len() as u16;
         self.update.round += 1;
         self.update.evaluations += u32::from(size);
         let round = self.update.round;
-        let closed = lone || !altered;
+        let closed = if size == 1 && !self.wiring.reads_itself(least) {
+            self.work_lone(least);
+            true
+        } else {
+            self.climb(circle)
+        };
         if closed {
-            self.close();
+            self.update.circles += 1;
+            self.update.rank += 1;
+            self.update.round = 0;
         }
-        Step::Round(Round {
-            least: self.wiring.instance(label),
-            round,
-            size,
-            closed,
-        })
+        Step::Round(Round { least: self.wiring.instances()[least], round, size, closed })
     }
 
     /// Whether a tree is held.
@@ -152,17 +137,15 @@ impl Engine {
 
     /// The instances and their values, rising.
     pub fn readings(&self) -> impl Iterator<Item = (u16, Set)> + '_ {
-        self.wiring
-            .instances()
-            .iter()
-            .copied()
-            .zip(self.sets.iter().copied())
+        let places = 0..self.wiring.places();
+        places.map(|place| (self.wiring.instances()[place], self.sets[place]))
     }
 
     fn rewire(&mut self) {
         self.wiring.rebuild(&self.table, &self.nodes);
-        self.circles.rebuild(self.wiring.reads());
-        self.ranks.rebuild(self.wiring.reads(), &self.circles);
+        let (formulas, places) = (self.wiring.formulas(), self.wiring.places());
+        self.circles.rebuild(formulas, places);
+        self.ranks.rebuild(formulas, &self.circles, places);
     }
 
     /// The places of all nodes of a subtree but its root.
@@ -171,97 +154,112 @@ impl Engine {
     }
 
     fn synthesized(&self, node: usize) -> Range<Place> {
-        let symbol = self
-            .table
-            .symbol_of(self.table.production_of(&self.nodes[node]));
+        let symbol = self.table.symbol_of(self.table.production_of(&self.nodes[node]));
         let first = self.wiring.first(node);
         first..first + Place::from(symbol.synthesized)
     }
 
+    /// Moves the sets of the nodes behind a part to where those nodes now are.
+    fn shift(&mut self, behind: Range<Place>, to: Place) {
+        let reach = behind.end.max(to + behind.len() as Place);
+        self.sets.reach(reach, 0);
+        if behind.start != to {
+            let range = usize::from(behind.start)..usize::from(behind.end);
+            self.sets.part_mut(0, reach).copy_within(range, to.into());
+        }
+    }
+
     fn open(&mut self, new: Range<Place>) {
         self.due.clear();
-        self.due.resize(self.wiring.places(), false);
+        self.due.resize(self.circles.count().into(), false);
         self.sow(new.clone());
-        self.update = Update {
-            new,
-            ..Update::default()
-        };
+        self.update = Update { new, ..Update::default() };
     }
 
     fn sow(&mut self, places: Range<Place>) {
         for place in places {
-            self.due[usize::from(self.circles.label(place))] = true;
+            self.due[usize::from(self.circles.of(place))] = true;
         }
     }
 
-    /// The label of the first due circle from the recorded rank on, which becomes its rank.
-    fn next_due(&mut self) -> Option<Place> {
+    /// The first due circle from the recorded rank on, which becomes its rank.
+    fn next_due(&mut self) -> Option<Circle> {
         loop {
-            let label = self
-                .circles
-                .label(*self.ranks.circle(self.update.rank)?.first()?);
-            if self.due[usize::from(label)] {
-                return Some(label);
+            let circle = self.ranks.circle(self.update.rank)?;
+            if self.due[usize::from(circle)] {
+                return Some(circle);
             }
             self.update.rank += 1;
         }
     }
 
-    /// Keeps the before values of the circle at work; a climb starts from empty sets.
-    fn begin(&mut self, lone: bool) {
+    /// The only round of a lone circle: what it reads is finished.
+    fn work_lone(&mut self, place: Place) {
+        let value = self.wiring.formulas()[place].value(|argument| self.sets[argument]);
+        let before = self.sets[place];
+        self.sets[place] = value;
+        if value != before {
+            self.tell(place);
+        }
+    }
+
+    /// One round of another circle; answers whether it closes.
+    fn climb(&mut self, circle: Circle) -> bool {
+        if self.update.round == 1 {
+            self.begin(circle);
+        }
+        let members = self.circles.members(circle);
+        compute(members, self.wiring.formulas(), &self.sets, &mut self.computed);
+        let closed = !store(members, &self.computed, &mut self.sets);
+        if closed {
+            self.finish(circle);
+        }
+        closed
+    }
+
+    /// Keeps a circle's before values and empties it: a climb from the values held would keep
+    /// reasons that only hold each other up.
+    fn begin(&mut self, circle: Circle) {
+        let members = self.circles.members(circle);
         self.before.clear();
-        for &member in self.ranks.circle(self.update.rank).unwrap_or_default() {
-            let set = &mut self.sets[usize::from(member)];
-            self.before.push(*set);
-            if !lone {
-                *set = 0;
+        self.before.extend(members.iter().map(|&member| self.sets[member]));
+        for &member in members {
+            self.sets[member] = 0;
+        }
+        self.computed.resize(members.len(), 0);
+    }
+
+    fn finish(&mut self, circle: Circle) {
+        for at in 0..self.before.len() {
+            let member = self.circles.members(circle)[at];
+            if self.sets[member] != self.before[at] {
+                self.tell(member);
             }
         }
     }
 
-    /// Computes the circle at work from the values before this round, then stores. Answers
-    /// whether anything altered.
-    fn round(&mut self) -> bool {
-        let members = self.ranks.circle(self.update.rank).unwrap_or_default();
-        compute(
-            members,
-            self.wiring.formulas(),
-            &self.sets,
-            &mut self.computed,
-        );
-        store(members, &self.computed, &mut self.sets)
-    }
-
-    /// Closes the circle at work: whoever reads a member that isn't as before becomes due.
-    fn close(&mut self) {
-        let members = self.ranks.circle(self.update.rank).unwrap_or_default();
-        for (&member, &before) in members.iter().zip(&self.before) {
-            if self.sets[usize::from(member)] == before {
-                continue;
-            }
-            if !self.update.new.contains(&member) {
-                self.update.changed += 1;
-            }
-            for reader in self.ranks.readers(member) {
-                self.due[usize::from(self.circles.label(reader))] = true;
-            }
+    /// A finished set isn't as before: it counts as changed, and those who read it are due.
+    fn tell(&mut self, place: Place) {
+        if !self.update.new.contains(&place) {
+            self.update.changed += 1;
         }
-        self.update.circles += 1;
-        self.update.rank += 1;
-        self.update.round = 0;
+        for reader in self.ranks.readers(place) {
+            self.due[usize::from(self.circles.of(reader))] = true;
+        }
     }
 }
 
-fn compute(members: &[Place], formulas: &[Formula<Place>], sets: &[Set], to: &mut Vec<Set>) {
-    to.clear();
-    to.extend(members.iter().map(|&member| {
-        formulas[usize::from(member)].value(|argument| sets[usize::from(argument)])
-    }));
+/// Computes each member from the values before this round.
+fn compute(members: &[Place], formulas: &[Formula<Place>], sets: &[Set], computed: &mut [Set]) {
+    for (value, &member) in computed.iter_mut().zip(members) {
+        *value = formulas[usize::from(member)].value(|place| sets[usize::from(place)]);
+    }
 }
 
-fn store(members: &[Place], values: &[Set], sets: &mut [Set]) -> bool {
+/// Stores what a round computed; answers whether anything altered.
+fn store(members: &[Place], computed: &[Set], sets: &mut [Set]) -> bool {
     let mut altered = false;
-    for (&member, &value) in members.iter().zip(values) {
+    for (&value, &member) in computed.iter().zip(members) {
         let set = &mut sets[usize::from(member)];
         altered |= *set != value;
         *set = value;

@@ -60,40 +60,19 @@ impl Frame {
     /// The frame that these bytes are, unless its type is unknown or its length wrong.
     fn parse(bytes: &[u8]) -> Option<Frame> {
         let frame = match *bytes {
-            [0x01, symbols, productions] => Frame::Counts {
-                symbols,
-                productions,
-            },
-            [0x02, synthesized, inherited] => Frame::Symbol {
-                synthesized,
-                inherited,
-            },
+            [0x01, symbols, productions] => Frame::Counts { symbols, productions },
+            [0x02, synthesized, inherited] => Frame::Symbol { synthesized, inherited },
             [0x03, left, count, ref row @ ..] if row.len() == usize::from(count) => {
-                Frame::Production {
-                    left,
-                    count,
-                    children: first_four(row),
-                }
+                Frame::Production { left, count, children: first_four(row) }
             }
             [0x04, op, a, a_index, b, b_index, ref c @ ..] => Frame::Equation(EquationFields {
                 op,
-                a: Occurrence {
-                    position: a,
-                    index: a_index,
-                },
-                b: Occurrence {
-                    position: b,
-                    index: b_index,
-                },
+                a: Occurrence { position: a, index: a_index },
+                b: Occurrence { position: b, index: b_index },
                 c: set(c)?,
             }),
-            [0x05, production, ref own @ ..] => Frame::Node(Node {
-                production,
-                own: set(own)?,
-            }),
-            [0x06, high, low] => Frame::Load {
-                count: u16::from_be_bytes([high, low]),
-            },
+            [0x05, production, ref own @ ..] => Frame::Node(Node { production, own: set(own)? }),
+            [0x06, high, low] => Frame::Load { count: u16::from_be_bytes([high, low]) },
             [0x07, r, s, high, low] => Frame::Replace {
                 point: u16::from_be_bytes([r, s]),
                 count: u16::from_be_bytes([high, low]),
@@ -124,9 +103,7 @@ pub struct Frames<R> {
 
 impl<R: Read> Frames<R> {
     pub fn new(input: R) -> Self {
-        Frames {
-            lines: Lines::new(input),
-        }
+        Frames { lines: Lines::new(input) }
     }
 
     /// The line of the frame handed out last.

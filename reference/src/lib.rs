@@ -11,6 +11,7 @@ pub mod lines;
 pub mod ranks;
 pub mod ready;
 pub mod refusal;
+pub mod rows;
 pub mod session;
 pub mod sets;
 pub mod table;

@@ -40,14 +40,7 @@ pub struct Lines<R> {
 
 impl<R: Read> Lines<R> {
     pub fn new(input: R) -> Self {
-        Lines {
-            input,
-            window: Box::new([0; WINDOW]),
-            at: 0,
-            end: 0,
-            over: false,
-            line: 0,
-        }
+        Lines { input, window: Box::new([0; WINDOW]), at: 0, end: 0, over: false, line: 0 }
     }
 
     /// The number of the line handed out last.
@@ -107,18 +100,11 @@ impl<R: Read> Lines<R> {
 }
 
 fn look(text: &[u8]) -> Look {
-    let mut bytes = Bytes {
-        room: [0; DIGITS / 2],
-        count: 0,
-    };
+    let mut bytes = Bytes { room: [0; DIGITS / 2], count: 0 };
     for (i, &byte) in text.iter().take(DIGITS + 1).enumerate() {
         if byte == b'\n' {
             bytes.count = i / 2;
-            return if i >= 2 && i % 2 == 0 {
-                Look::Good(bytes)
-            } else {
-                Look::Bad
-            };
+            return if i >= 2 && i % 2 == 0 { Look::Good(bytes) } else { Look::Bad };
         }
         let digit = match byte {
             b'0'..=b'9' => byte - b'0',
@@ -144,9 +130,6 @@ mod tests {
         assert!(lines.next_line().is_ok());
         assert_eq!(lines.line(), u32::MAX);
         assert!(lines.next_line().is_ok());
-        assert!(matches!(
-            lines.next_line(),
-            Err(Halt::Refused(Refusal::BadLine, u32::MAX))
-        ));
+        assert!(matches!(lines.next_line(), Err(Halt::Refused(Refusal::BadLine, u32::MAX))));
     }
 }

@@ -1,6 +1,6 @@
 //! A set of places that gives back its least member quickly.
 
-use crate::wiring::Place;
+use crate::rows::Place;
 
 /// 64 words of 64 bits hold every place; `words` marks which of them aren't empty, so the least
 /// member is two bit searches away.
@@ -11,10 +11,7 @@ pub struct Ready {
 
 impl Ready {
     pub fn new() -> Self {
-        Ready {
-            words: 0,
-            bits: [0; 64],
-        }
+        Ready { words: 0, bits: [0; 64] }
     }
 
     pub fn insert(&mut self, place: Place) {

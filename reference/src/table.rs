@@ -4,7 +4,7 @@ use std::io::Read;
 
 use crate::frames::{EquationFields, Frame, Frames, Node, Occurrence};
 use crate::refusal::{Halt, Refusal};
-use crate::sets::{Formula, Set};
+use crate::sets::{Formula, Op};
 
 const SYMBOLS: u8 = 32;
 const PRODUCTIONS: u8 = 64;
@@ -22,16 +22,6 @@ pub struct Symbol {
 }
 
 impl Symbol {
-    /// How many sets a node of this symbol has.
-    pub fn sets(self) -> u16 {
-        u16::from(self.synthesized + self.inherited)
-    }
-
-    /// The declared indices, rising.
-    pub fn indices(self) -> impl Iterator<Item = u8> {
-        (0..self.synthesized).chain(INHERITED..INHERITED + self.inherited)
-    }
-
     /// Where the set of this index stands in the row of the node's declared sets.
     fn offset(self, index: u8) -> Option<u8> {
         if index < self.synthesized {
@@ -44,40 +34,32 @@ impl Symbol {
     }
 }
 
-/// An occurrence whose index counts declared sets only: what a tree's wiring needs.
+/// A declared occurrence, and where its set stands in the row of the node's declared sets.
 #[derive(Clone, Copy, Debug)]
 pub struct Spot {
     pub position: u8,
+    pub index: u8,
     pub offset: u8,
 }
 
-/// The right side of an equation. With `own` its constant is the left node's own set.
-#[derive(Clone, Copy)]
-pub struct Rule<A> {
-    formula: Formula<A>,
-    own: bool,
-}
-
-impl Rule<Spot> {
-    /// The formula at a node with this own set.
-    pub fn at(self, own: Set) -> Formula<Spot> {
-        match self.formula {
-            Formula::Constant(_) if self.own => Formula::Constant(own),
-            Formula::Add(a, _) if self.own => Formula::Add(a, own),
-            formula => formula,
-        }
-    }
+impl Spot {
+    /// An argument that the operation doesn't use: behind every position of a production.
+    const UNUSED: Spot = Spot { position: CHILDREN + 1, index: 0, offset: 0 };
 }
 
 #[derive(Clone, Copy)]
 pub struct Equation {
     pub target: Spot,
-    pub rule: Rule<Spot>,
+    pub formula: Formula<Spot>,
+    /// Whether the left node's own set is the constant.
+    pub own_constant: bool,
 }
 
 pub struct Production {
     pub left: u8,
     pub children: Vec<u8>,
+    /// How many sets a node of the left symbol has.
+    pub sets: u16,
     pub equations: Vec<Equation>,
 }
 
@@ -89,20 +71,13 @@ pub struct Table {
 impl Table {
     /// Reads a table. It is judged in frame order, so the first bad frame ends the reading.
     pub fn read<R: Read>(frames: &mut Frames<R>) -> Result<Table, Halt> {
-        let Frame::Counts {
-            symbols,
-            productions,
-        } = frames.inside()?
-        else {
+        let Frame::Counts { symbols, productions } = frames.inside()? else {
             return Err(frames.misplaced());
         };
         if !(1..=SYMBOLS).contains(&symbols) || !(1..=PRODUCTIONS).contains(&productions) {
             return Err(frames.refuse(Refusal::CountOutsideLimit));
         }
-        let mut table = Table {
-            symbols: Vec::new(),
-            productions: Vec::new(),
-        };
+        let mut table = Table { symbols: Vec::new(), productions: Vec::new() };
         for _ in 0..symbols {
             table.read_symbol(frames)?;
         }
@@ -127,11 +102,7 @@ impl Table {
     }
 
     fn read_symbol<R: Read>(&mut self, frames: &mut Frames<R>) -> Result<(), Halt> {
-        let Frame::Symbol {
-            synthesized,
-            inherited,
-        } = frames.inside()?
-        else {
+        let Frame::Symbol { synthesized, inherited } = frames.inside()? else {
             return Err(frames.misplaced());
         };
         if synthesized > SETS || inherited > SETS {
@@ -140,20 +111,27 @@ impl Table {
         if self.symbols.is_empty() && inherited > 0 {
             return Err(frames.refuse(Refusal::StartInherits));
         }
-        self.symbols.push(Symbol {
-            synthesized,
-            inherited,
-        });
+        self.symbols.push(Symbol { synthesized, inherited });
         Ok(())
     }
 
     fn read_production<R: Read>(&mut self, frames: &mut Frames<R>) -> Result<(), Halt> {
-        let Frame::Production {
-            left,
-            count,
-            children,
-        } = frames.inside()?
-        else {
+        let mut production = self.read_shape(frames)?;
+        for target in self.targets(&production) {
+            let Frame::Equation(fields) = frames.inside()? else {
+                return Err(frames.misplaced());
+            };
+            let equation = self.judge(&production, target, fields);
+            let equation = equation.map_err(|refusal| frames.refuse(refusal))?;
+            production.equations.push(equation);
+        }
+        self.productions.push(production);
+        Ok(())
+    }
+
+    /// A production that has no equations yet.
+    fn read_shape<R: Read>(&self, frames: &mut Frames<R>) -> Result<Production, Halt> {
+        let Frame::Production { left, count, children } = frames.inside()? else {
             return Err(frames.misplaced());
         };
         if count > CHILDREN {
@@ -164,52 +142,41 @@ impl Table {
         if !known(&left) || !children.iter().all(known) {
             return Err(frames.refuse(Refusal::UnknownSymbol));
         }
-        let mut production = Production {
-            left,
-            children,
-            equations: Vec::new(),
-        };
-        for target in self.targets(&production) {
-            let Frame::Equation(fields) = frames.inside()? else {
-                return Err(frames.misplaced());
-            };
-            let rule = self
-                .judge(&production, fields)
-                .map_err(|no| frames.refuse(no))?;
-            production.equations.push(Equation { target, rule });
-        }
-        self.productions.push(production);
-        Ok(())
+        let Symbol { synthesized, inherited } = self.symbols[usize::from(left)];
+        let sets = u16::from(synthesized + inherited);
+        Ok(Production { left, children, sets, equations: Vec::new() })
     }
 
     /// The sets that a production defines, in the order of its equations: synthesized ones of
     /// the left symbol, then inherited ones child by child.
     fn targets(&self, production: &Production) -> Vec<Spot> {
-        let left = self.symbol_of(production);
-        let mut targets: Vec<Spot> = (0..left.synthesized)
-            .map(|offset| Spot {
-                position: 0,
-                offset,
-            })
-            .collect();
+        let Symbol { synthesized, .. } = self.symbol_of(production);
+        let here = (0..synthesized).map(|index| Spot { position: 0, index, offset: index });
+        let mut targets: Vec<Spot> = here.collect();
         for (position, &child) in (1..).zip(&production.children) {
-            let Symbol {
-                synthesized,
-                inherited,
-            } = self.symbols[usize::from(child)];
-            let inherited = synthesized..synthesized + inherited;
-            targets.extend(inherited.map(|offset| Spot { position, offset }));
+            let Symbol { synthesized, inherited } = self.symbols[usize::from(child)];
+            let row = (INHERITED..INHERITED + inherited).zip(synthesized..);
+            targets.extend(row.map(|(index, offset)| Spot { position, index, offset }));
         }
         targets
     }
 
-    fn judge(&self, of: &Production, fields: EquationFields) -> Result<Rule<Spot>, Refusal> {
-        let Rule { formula, own } = shape(fields).ok_or(Refusal::UnsoundOperation)?;
-        let spot = |argument| self.spot(of, argument).ok_or(Refusal::UndeclaredArgument);
-        Ok(Rule {
-            formula: formula.rename(spot)?,
-            own,
-        })
+    /// The equation that defines this set. An unused argument is zero and judged no further.
+    fn judge(
+        &self,
+        of: &Production,
+        target: Spot,
+        fields: EquationFields,
+    ) -> Result<Equation, Refusal> {
+        let op = operation(fields).ok_or(Refusal::UnsoundOperation)?;
+        let spot = |used: bool, occurrence: Occurrence| match used {
+            true => self.spot(of, occurrence).ok_or(Refusal::UndeclaredArgument),
+            false => Ok(Spot::UNUSED),
+        };
+        let (a, b) = (spot(op.uses_a(), fields.a)?, spot(op.uses_b(), fields.b)?);
+        let formula = Formula { op, a, b, c: fields.c };
+        let own_constant = matches!(fields.op, 1 | 8);
+        Ok(Equation { target, formula, own_constant })
     }
 
     fn spot(&self, of: &Production, occurrence: Occurrence) -> Option<Spot> {
@@ -219,35 +186,27 @@ impl Table {
             _ => *of.children.get(usize::from(position) - 1)?,
         };
         let offset = self.symbols[usize::from(symbol)].offset(index)?;
-        Some(Spot { position, offset })
+        Some(Spot { position, index, offset })
     }
 }
 
-/// The rule that an equation's fields hold: nothing where the operation is unknown, an unused
-/// field isn't zero, or op 7 asks for more members than a set can have.
-fn shape(fields: EquationFields) -> Option<Rule<Occurrence>> {
-    use Formula::*;
-    let EquationFields { op, a, b, c } = fields;
-    let formula = match op {
-        0 | 1 => Constant(c),
-        2 | 8 => Add(a, c),
-        3 => Keep(a, c),
-        4 => Join(a, b),
-        5 => Meet(a, b),
-        6 => IfAll(a, b, c),
-        7 if c <= MEMBERS => IfCount(a, b, c),
+/// The operation of an equation: none where it is unknown, an unused field isn't zero, or op 7
+/// asks for more members than a set can have.
+fn operation(fields: EquationFields) -> Option<Op> {
+    let EquationFields { op: number, a, b, c } = fields;
+    let op = match number {
+        0 | 1 => Op::Constant,
+        2 | 8 => Op::Add,
+        3 => Op::Keep,
+        4 => Op::Join,
+        5 => Op::Meet,
+        6 => Op::IfAll,
+        7 if c <= MEMBERS => Op::IfCount,
         _ => return None,
     };
-    let zero = Occurrence {
-        position: 0,
-        index: 0,
-    };
-    let (used_a, used_b) = formula.arguments();
-    let unused_are_zero = (used_a.is_some() || a == zero)
-        && (used_b.is_some() || b == zero)
-        && (c == 0 || !matches!(op, 1 | 4 | 5 | 8));
-    unused_are_zero.then_some(Rule {
-        formula,
-        own: matches!(op, 1 | 8),
-    })
+    let zero = Occurrence { position: 0, index: 0 };
+    let uses_c = matches!(number, 0 | 2 | 3 | 6 | 7);
+    let unused_are_zero =
+        (op.uses_a() || a == zero) && (op.uses_b() || b == zero) && (uses_c || c == 0);
+    unused_are_zero.then_some(op)
 }

@@ -15,9 +15,7 @@ pub fn judge(table: &Table, symbol: u8, nodes: &[Node]) -> Result<(), Refusal> {
     let mut wanted = Vec::with_capacity(nodes.len());
     wanted.push(symbol);
     for node in nodes {
-        let production = table
-            .production(node.production)
-            .ok_or(Refusal::UnknownProduction)?;
+        let production = table.production(node.production).ok_or(Refusal::UnknownProduction)?;
         if wanted.pop() != Some(production.left) {
             return Err(Refusal::WrongShape);
         }

@@ -1,42 +1,52 @@
-//! The wiring of a tree: for each of its sets the formula that defines it and what that reads.
-//!
-//! Declared instances are numbered through without gaps, in the order of their instance numbers.
-//! Such a number is a place. Every pass then costs the sets that exist, and not eight a node.
-
-use std::convert::Infallible;
+//! The wiring of a tree: for each of its sets the formula that defines it.
 
 use crate::frames::Node;
-use crate::sets::{Formula, Set};
-use crate::table::{Production, Spot, Table};
+use crate::rows::{Place, Row, NOWHERE};
+use crate::sets::{Formula, Op, Set};
+use crate::table::{Equation, Production, Spot, Table};
+use crate::tree::NODES;
 
-pub type Place = u16;
+/// Where the sets of a node start: its first place, and 8 × node.
+#[derive(Clone, Copy)]
+struct Start {
+    place: Place,
+    instance: u16,
+}
 
-/// Stands where an argument would, if there is none.
-pub const NOWHERE: Place = Place::MAX;
+/// The starts of a production's left node and children, by position. Behind them nowhere: that
+/// is where an unused argument points.
+type Starts = [Start; 6];
 
-#[derive(Default)]
 pub struct Wiring {
+    nodes: usize,
     /// Each node's first place, and behind the last node the number of places.
-    first: Vec<Place>,
+    first: [Place; NODES + 1],
     /// How many nodes each node's subtree has.
-    span: Vec<u16>,
-    /// Each place's instance number, 8 × node + index.
-    instance: Vec<u16>,
-    formula: Vec<Formula<Place>>,
-    /// The arguments again, at hand for the walks that need nothing else of a formula.
-    reads: Vec<[Place; 2]>,
+    span: [u16; NODES],
+    formulas: Row<Formula<Place>>,
+    instances: Row<u16>,
 }
 
 impl Wiring {
+    pub fn new() -> Self {
+        Wiring {
+            nodes: 0,
+            first: [0; NODES + 1],
+            span: [0; NODES],
+            formulas: Row::new(),
+            instances: Row::new(),
+        }
+    }
+
     /// Wires a sound tree anew.
     ///
     /// From the last node to the first, so that a node's children are found by the spans that
     /// its descendants already have.
     pub fn rebuild(&mut self, table: &Table, nodes: &[Node]) {
         self.number(table, nodes);
-        self.span.resize(nodes.len(), 0);
-        self.formula.resize(self.places(), Formula::Constant(0));
-        self.reads.resize(self.places(), [NOWHERE; 2]);
+        self.instances.reach(self.places(), 0);
+        let none = Formula { op: Op::Constant, a: NOWHERE, b: NOWHERE, c: 0 };
+        self.formulas.reach(self.places(), none);
         for (at, node) in nodes.iter().enumerate().rev() {
             let production = table.production_of(node);
             let starts = self.find_children(at, production);
@@ -44,8 +54,8 @@ impl Wiring {
         }
     }
 
-    pub fn places(&self) -> usize {
-        self.instance.len()
+    pub fn places(&self) -> Place {
+        self.first[self.nodes]
     }
 
     /// The first place of a node, or behind the last node the number of places.
@@ -57,61 +67,66 @@ impl Wiring {
         usize::from(self.span[node])
     }
 
-    pub fn instance(&self, place: Place) -> u16 {
-        self.instance[usize::from(place)]
+    pub fn formulas(&self) -> &Row<Formula<Place>> {
+        &self.formulas
     }
 
-    pub fn instances(&self) -> &[u16] {
-        &self.instance
-    }
-
-    pub fn formulas(&self) -> &[Formula<Place>] {
-        &self.formula
-    }
-
-    pub fn reads(&self) -> &[[Place; 2]] {
-        &self.reads
+    /// The instance numbers of the places: 8 × node + index.
+    pub fn instances(&self) -> &Row<u16> {
+        &self.instances
     }
 
     pub fn reads_itself(&self, place: Place) -> bool {
-        self.reads[usize::from(place)].contains(&place)
+        let Formula { a, b, .. } = self.formulas[place];
+        a == place || b == place
     }
 
     fn number(&mut self, table: &Table, nodes: &[Node]) {
-        self.first.clear();
-        self.instance.clear();
-        for (at, node) in nodes.iter().enumerate() {
-            self.first.push(self.instance.len() as Place);
-            let symbol = table.symbol_of(table.production_of(node));
-            let start = 8 * at as u16;
-            self.instance
-                .extend(symbol.indices().map(|index| start + u16::from(index)));
+        self.nodes = nodes.len();
+        let mut place = 0;
+        for (first, node) in self.first.iter_mut().zip(nodes) {
+            *first = place;
+            place += table.production_of(node).sets;
         }
-        self.first.push(self.instance.len() as Place);
+        self.first[nodes.len()] = place;
     }
 
-    /// The first places of a node and of its children, by position; also sets the node's span.
-    fn find_children(&mut self, at: usize, production: &Production) -> [Place; 5] {
-        let mut starts = [NOWHERE; 5];
-        starts[0] = self.first[at];
+    /// Where a node's and its children's sets start; also sets the node's span.
+    fn find_children(&mut self, at: usize, production: &Production) -> Starts {
+        let mut starts = [Start { place: NOWHERE, instance: 0 }; 6];
+        starts[0] = self.start(at);
         let mut child = at + 1;
         for start in &mut starts[1..=production.children.len()] {
-            *start = self.first[child];
+            *start = self.start(child);
             child += usize::from(self.span[child]);
         }
         self.span[at] = (child - at) as u16;
         starts
     }
 
-    fn define(&mut self, production: &Production, own: Set, starts: [Place; 5]) {
-        let place = |spot: Spot| starts[usize::from(spot.position)] + Place::from(spot.offset);
-        for equation in &production.equations {
-            let named = |spot| Ok::<Place, Infallible>(place(spot));
-            let Ok(formula) = equation.rule.at(own).rename(named);
-            let (a, b) = formula.arguments();
-            let target = usize::from(place(equation.target));
-            self.formula[target] = formula;
-            self.reads[target] = [a.unwrap_or(NOWHERE), b.unwrap_or(NOWHERE)];
+    fn start(&self, node: usize) -> Start {
+        Start { place: self.first[node], instance: 8 * node as u16 }
+    }
+
+    fn define(&mut self, production: &Production, own: Set, starts: Starts) {
+        let place =
+            |spot: Spot| starts[usize::from(spot.position)].place + Place::from(spot.offset);
+        for Equation { target, formula, own_constant } in &production.equations {
+            let defined = place(*target);
+            let start = starts[usize::from(target.position)].instance;
+            self.instances[defined] = start + u16::from(target.index);
+            self.formulas[defined] = Formula {
+                op: formula.op,
+                a: place(formula.a),
+                b: place(formula.b),
+                c: if *own_constant { own } else { formula.c },
+            };
         }
+    }
+}
+
+impl Default for Wiring {
+    fn default() -> Self {
+        Wiring::new()
     }
 }
