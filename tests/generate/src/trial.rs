@@ -13,6 +13,8 @@ use crate::chance::Chance;
 const PATIENCE: Duration = Duration::from_secs(60);
 /// Long enough for a waiting program to be woken and to read what there is.
 const PAUSE: Duration = Duration::from_micros(20);
+/// Long enough for most programs to have begun to read.
+const START: Duration = Duration::from_millis(2);
 
 /// Runs a program over a text. At most `most` bytes of its answer are read, so that one that
 /// never stops talking doesn't stop us. In pieces, the text arrives bit by bit.
@@ -68,14 +70,20 @@ fn end(child: &mut Child) -> Option<ExitStatus> {
     None
 }
 
-/// Writes the text. A program may stop reading early, which is no fault.
+/// Writes the text; in pieces, from its start or from somewhere in it, as many as take a moment
+/// and no more. A program may stop reading early, which is no fault.
 fn hand_over(mut stdin: ChildStdin, text: &[u8], pieces: Option<Chance>) {
     let Some(mut chance) = pieces else {
         let _ = stdin.write_all(text);
         return;
     };
+    thread::sleep(START);
     let single = chance.one_in(2);
-    let mut rest = text;
+    let whole = if chance.one_in(2) { chance.below(text.len() + 1) } else { 0 };
+    let (front, mut rest) = text.split_at(whole);
+    if stdin.write_all(front).is_err() {
+        return;
+    }
     for _ in 0..400 {
         let size = if single { 1 } else { chance.between(1, 40) };
         let (piece, behind) = rest.split_at(size.min(rest.len()));
