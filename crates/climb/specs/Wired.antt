@@ -8,8 +8,11 @@ use lib.Dec.{ltb}
 use lib.ListN.{length, getD}
 use Rattle.sets.specs.Operations.{valueOf}
 use Rattle.table.specs.Equations.{equationAt}
+use Rattle.circles.specs.Graph.{_∈_}
 use Rattle.circles.specs.Arrays as arrays
-use Rattle.climb.specs.System.{Assignment, System}
+use Rattle.climb.specs.System.{Assignment, System, graphOf, Lawful}
+use Rattle.climb.specs.Inside.{Small}
+use Rattle.climb.specs.Memory.{at}
 
 -- the set of an argument; a number past the slots is none, and gives the empty set
 abbrev pub readOf : ℕ → Assignment → ℕ → ℕ
@@ -61,3 +64,15 @@ pub record Wiring (owns a b left rule : List ℕ) (n : ℕ) : Type 0 where
   pub rules : n ≤ length rule
   pub ruled : (x : ℕ) → arrays.graphOf n a b .declared x ≡ true → getD rule x 0 < 1280
   pub owned : (x : ℕ) → arrays.graphOf n a b .declared x ≡ true → getD left x 0 < length owns
+
+-- ---- what is promised of the wired system
+
+-- its graph is the one that the arrays hold
+abbrev pub WiredGraph : Type 0
+WiredGraph = (n : ℕ) (t owns a b left rule : List ℕ) → graphOf (wired n t owns a b left rule) ≡ arrays.graphOf n a b
+
+-- it is lawful: words and own sets have 64 bits, and what a declared slot reads is declared
+abbrev pub WiredLawful : Type 0
+WiredLawful = (n : ℕ) (t owns a b left rule : List ℕ) → Small (at t) → Small (at owns)
+    → ((x : ℕ) → arrays.graphOf n a b .declared x ≡ true → (y : ℕ) → y ∈ arrays.graphOf n a b .args x → arrays.graphOf n a b .declared y ≡ true)
+    → Lawful (wired n t owns a b left rule)
