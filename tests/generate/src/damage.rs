@@ -5,7 +5,7 @@ use crate::text::{frame_of, line, Text};
 
 type Damage = fn(&mut Chance, &mut Text);
 
-const KINDS: [Damage; 28] = [
+const KINDS: [Damage; 30] = [
     // A field changed inside a good frame is how tables come to be refused: so, several times.
     another_field,
     another_field,
@@ -13,6 +13,8 @@ const KINDS: [Damage; 28] = [
     another_field,
     another_field,
     another_field,
+    counts_at_limits,
+    members_at_limit,
     more_children,
     another_digit,
     another_digit,
@@ -82,6 +84,35 @@ fn another_field(chance: &mut Chance, text: &mut Text) {
         _ => chance.pick(&beside),
     };
     text.lines[at] = line(&frame);
+}
+
+/// A header whose counts lie on or beside their limits.
+fn counts_at_limits(chance: &mut Chance, text: &mut Text) {
+    let symbols = chance.pick(&[0, 1, 31, 32, 33, 64, 255]);
+    let productions = chance.pick(&[0, 1, 32, 63, 64, 65, 255]);
+    let mut header = frame_of(&text.lines[0]);
+    if let [0x01, before, after] = &mut header[..] {
+        (*before, *after) = match chance.below(3) {
+            0 => (symbols, productions),
+            1 => (symbols, *after),
+            _ => (*before, productions),
+        };
+        text.lines[0] = line(&header);
+    }
+}
+
+/// An equation with op 7 that asks for about as many members as a set can have.
+fn members_at_limit(chance: &mut Chance, text: &mut Text) {
+    let from = any_line(chance, text);
+    let counts = |line: &&mut Vec<u8>| line.starts_with(b"0407") && line.len() == 29;
+    if let Some(found) = text.lines[from..].iter_mut().find(counts) {
+        let mut frame = frame_of(found);
+        if let Some(c) = frame.get_mut(6..) {
+            let wanted: u64 = chance.pick(&[63, 64, 65, 65, 66, 128, 256, 1 << 32, u64::MAX]);
+            c.copy_from_slice(&wanted.to_be_bytes());
+        }
+        *found = line(&frame);
+    }
 }
 
 /// A production frame with more children than it may have, and as long as it then should be.

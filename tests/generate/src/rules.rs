@@ -208,26 +208,29 @@ fn with_equations(
         .flat_map(|position| at(position).indices().map(move |index| (position as u8, index)))
         .collect();
     let is_defined = |&(position, index): &Occurrence| (position == 0) == (index < 4);
-    let equations = declared
-        .iter()
-        .copied()
-        .filter(is_defined)
-        .map(|target| {
-            let aside = chance.one_in(12);
-            let liked = liked(if aside { Net::Any } else { net }, target, &declared);
-            // Joins and own sets come more often than the rest: they let sets grow and travel.
-            let op = match net {
-                Net::Ring => chance.pick(&[2, 2, 3, 4, 4, 4, 4, 5, 6, 7, 8, 8]),
-                _ => chance.pick(&[0, 1, 2, 2, 3, 4, 4, 4, 4, 5, 6, 7, 8, 8, 8]),
-            };
-            let mut equation = equation(chance, op, &liked);
-            if let Net::Ring = net {
-                equation.a = lane(chance, target, &declared).unwrap_or(equation.a);
-            }
-            equation
-        })
-        .collect();
+    let targets = declared.iter().copied().filter(is_defined);
+    let equations = targets.map(|target| equation(chance, net, target, &declared)).collect();
     Production { left, children, equations }
+}
+
+/// An equation for this set. Joins and own sets come more often than the rest: they let sets
+/// grow and travel.
+fn equation(
+    chance: &mut Chance,
+    net: Net,
+    target: Occurrence,
+    declared: &[Occurrence],
+) -> Equation {
+    let aside = chance.one_in(12);
+    let liked = liked(if aside { Net::Any } else { net }, target, declared);
+    let Net::Ring = net else {
+        let op = chance.pick(&[0, 1, 2, 2, 3, 4, 4, 4, 4, 5, 6, 7, 8, 8, 8]);
+        return with_op(chance, op, &liked);
+    };
+    let op = chance.pick(&[2, 2, 3, 4, 4, 4, 4, 5, 6, 7, 8, 8]);
+    let mut equation = with_op(chance, op, &liked);
+    equation.a = lane(chance, target, declared).unwrap_or(equation.a);
+    equation
 }
 
 /// The arguments that a net likes for the equation of this set. Never none: at the worst all.
@@ -266,7 +269,8 @@ fn lane(chance: &mut Chance, target: Occurrence, declared: &[Occurrence]) -> Opt
     Some(chance.pick(&below))
 }
 
-fn equation(chance: &mut Chance, op: u8, liked: &[Occurrence]) -> Equation {
+/// An equation with this op and arguments among the liked ones.
+fn with_op(chance: &mut Chance, op: u8, liked: &[Occurrence]) -> Equation {
     let none = (0, 0);
     let a = chance.pick(liked);
     let b = chance.pick(liked);

@@ -43,7 +43,8 @@ impl Size {
             Size::Large if chance.one_in(4) => 512,
             Size::Large => chance.between(65, 512),
             Size::Limit => 512,
-            Size::Climb => chance.between(2, 280),
+            Size::Climb if chance.one_in(3) => 280,
+            Size::Climb => chance.between(2, 279),
         }
     }
 
