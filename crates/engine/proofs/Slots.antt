@@ -1,0 +1,1 @@
+-- Slots. Assumes nothing.

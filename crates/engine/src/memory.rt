@@ -1,0 +1,1 @@
+// What a load and a replacement make of the lent memory.
