@@ -1,3 +1,5 @@
 pub mod Moves
 pub mod Placed
 pub mod Slots
+pub mod Arranged
+pub mod Numbered

@@ -94,17 +94,22 @@ clear-rest d e h =
     ∙ ap (λ k. take e d ++ replicate (length d - k) 0) (sym g)
 
 -- s at the front, and zeros behind
-pub fill : (d s : List ℕ) → length s ≤ length d
-    → paste (paste d 0 s (length s)) (length s) (replicate (length d - length s) 0) (length d - length s) ≡ filled s d
-fill d s h =
-    let b = paste d 0 s (length s) in
-    let long : length b ≡ length d = length-paste d 0 s (length s) (omega arith) (omega arith) in
+pub fill : (d s : List ℕ) → length s ≤ length d → (b : List ℕ) → b ≡ paste d 0 s (length s)
+    → paste b (length s) (replicate (length b - length s) 0) (length b - length s) ≡ filled s d
+fill d s h b g =
+    let same : length b ≡ length d = ap length g ∙ length-paste d 0 s (length s) (omega arith) (omega arith) in
     let z : 0 + length s ≡ length s = omega arith in
-    let f : take (length s) b ≡ s = ap (λ k. take k b) (sym z) ∙ take-paste d 0 s (length s) (omega arith) (omega arith) ∙ take-all (length s) s (omega arith) in
-    ap (λ k. paste b (length s) (replicate (k - length s) 0) (k - length s)) (sym long)
-    ∙ clear-rest b (length s) (omega arith)
-    ∙ ap (λ l. filled l b) f
-    ∙ filled-alike s b d long
+    let f : take (length s) b ≡ s =
+    ap (take (length s)) g ∙ ap (λ k. take k (paste d 0 s (length s))) (sym z) ∙ take-paste d 0 s (length s) (omega arith) (omega arith) ∙ take-all (length s) s (omega arith) in
+    clear-rest b (length s) (omega arith) ∙ ap (λ l. filled l b) f ∙ filled-alike s b d same
+
+-- nothing but zeros
+pub all-empty : (d : List ℕ) → paste d 0 (replicate (length d) 0) (length d) ≡ replicate (length d) 0
+all-empty d =
+    let z : 0 + length d ≡ length d = omega arith in
+    ap (λ l. l ++ drop (0 + length d) d) (take-all (length d) (replicate (length d) 0) (omega (arith, length-replicate {A = ℕ} (length d) 0)))
+    ∙ ap (λ l. replicate (length d) 0 ++ l) (drop-of-length-le d {i = 0 + length d} (omega arith))
+    ∙ append-nil (replicate (length d) 0)
 
 -- the elements from r + k on, moved to r + s
 abbrev moved : List ℕ → ℕ → ℕ → ℕ → ℕ → List ℕ
