@@ -1,0 +1,3 @@
+// The engine's calls on lent memory.
+mod buffers;
+pub mod memory;
