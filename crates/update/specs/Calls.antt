@@ -9,6 +9,7 @@ use Rattle.refusal.specs.Numbers.{numberOf}
 use Rattle.tree.specs.Replace.{part}
 use Rattle.circles.specs.Ranked.{ranked, keep, upFrom}
 use Rattle.climb.specs.System.{System, graphOf}
+use Rattle.climb.specs.Memory.{at}
 use Rattle.wire.specs.Instances.{declared, system}
 use Rattle.update.specs.declared.Record.{Record}
 use Rattle.update.specs.declared.Open.the-variants.{Load, Replacement}
@@ -21,7 +22,7 @@ use Rattle.update.specs.declared.Reading.the-variants.{Set, Refused as R
 use Rattle.update.specs.Records.{opened}
 use Rattle.update.specs.Memories.{Memory, nodesOf, ownsOf, loaded, replaced}
 use Rattle.update.specs.Refusals.{loadRefusal, replaceRefusal, stepRefusal, readRefusal}
-use Rattle.update.specs.Steps.{at, Outcome, round, done, Made, stepOf, Ending, paused, finished, Ran, runOf}
+use Rattle.update.specs.Steps.{Outcome, round, done, Made, stepOf, Ending, paused, finished, Ran, runOf}
 
 -- ---- an answer is a refusal's number, or what was asked for
 

@@ -10,10 +10,11 @@ use Rattle.sets.specs.declared.Op.the-variants.{MeetConstant, IfAll, IfMany, Jo
 use Rattle.sets.specs.Operations.{valueOf}
 use Rattle.table.specs.Example.{tableA}
 use Rattle.climb.specs.System.{weight}
+use Rattle.climb.specs.Memory.{at}
 use Rattle.update.specs.declared.Record.{Record}
 use Rattle.update.specs.Records.{emptyRecord}
 use Rattle.update.specs.Memories.{Memory}
-use Rattle.update.specs.Steps.{at, Outcome, round, done}
+use Rattle.update.specs.Steps.{Outcome, round, done}
 use Rattle.update.specs.Calls.{Said, refused, said, Left, Opened, loadCall, replaceCall, stepCall}
 
 -- a case: what the definitions give, and what document 01 says that they give
