@@ -260,8 +260,18 @@ module _ (K : Kind) (v : wide K ≡ true) (n : ℕ) (i : IsOf K n) (z : 0 < n) w
       (λ a p. gives-by c n (kind-is (kindOf c) K n a i) p) (given-from l) g
 
   -- a call gives a number exactly under the condition that the list shows
-  pub exactly : (l : List Check) → allWide l ≡ true → (firstRefusal (numbersOf l) ≡ n) ↔ Given l K n
+  exactly : (l : List Check) → allWide l ≡ true → (firstRefusal (numbersOf l) ≡ n) ↔ Given l K n
   exactly l w = (given-to l w, given-from l)
+
+-- by kinds
+pub number : (l : List Check) → allWide l ≡ true → (n : ℕ) → ltb 7 n ≡ true → (firstRefusal (numbersOf l) ≡ n) ↔ Given l (only n) n
+number l w n v = exactly (only n) v n refl (omega (arith, ltb-true 7 n v)) l w
+
+pub table-number : (l : List Check) → allWide l ≡ true → (n : ℕ) → 1 ≤ n → n ≤ 5 → (firstRefusal (numbersOf l) ≡ n) ↔ Given l of-table n
+table-number l w n a b = exactly of-table refl n (a, b) a l w
+
+pub tree-number : (l : List Check) → allWide l ≡ true → (n : ℕ) → 6 ≤ n → n ≤ 7 → (firstRefusal (numbersOf l) ≡ n) ↔ Given l of-tree n
+tree-number l w n a b = exactly of-tree refl n (a, b) (omega arith) l w
 
 -- and nothing exactly where all are silent
 silent-to : (l : List Check) → allWide l ≡ true → firstRefusal (numbersOf l) ≡ 0 → AllSilent l

@@ -1,7 +1,7 @@
 pub mod Records
 pub mod Memories
 pub mod Refusals
-pub mod Refused
 pub mod Steps
 pub mod Calls
+pub mod Refused
 pub mod Cases

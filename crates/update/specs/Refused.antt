@@ -15,6 +15,7 @@ use Rattle.wire.specs.Instances.{declared}
 use Rattle.update.specs.declared.Record.{Record}
 use Rattle.update.specs.Records.{isOpen, beyond}
 use Rattle.update.specs.Memories.{Memory, nodesOf}
+use Rattle.update.specs.Calls.{Said, refused, said, Left, loadCall, replaceCall, stepCall, runCall, readCall}
 use Rattle.update.specs.Refusals.{firstRefusal, short, heldRefusal, loadRefusal, replaceRefusal, stepRefusal, readRefusal, dumpRefusal}
 
 -- ---- any call: of the numbers in its order, the first that is not 0
@@ -41,7 +42,6 @@ NoneRefuses = (l : List ℕ) → (firstRefusal l ≡ 0) ↔ ((m : ℕ) → m ∈
 -- ---- call by call
 
 infixr 3 _and_
-
 abbrev pub _and_ : Type 0 → Type 0 → Type 0
 A and B = A × B
 
@@ -156,3 +156,25 @@ pub record WithinLimits (r : Record) : Type 0 where
 
 abbrev pub BeyondMeans : Type 0
 BeyondMeans = (r : Record) → (beyond r ≡ false) ↔ WithinLimits r
+
+-- ---- "A refusal returns its number and changes nothing lent."
+
+-- a call that refuses by n answers n and leaves all; one that refuses nothing answers what was asked for
+pub record Leaves {A : Type 0} (n : ℕ) (r : Record) (m : Memory) (left : Left (Said A)) : Type 0 where
+  pub refused : 0 < n → left ≡ record { answer = refused n; next = r; memory = m }
+  pub carried : n ≡ 0 → (a : A) × (left .answer ≡ said a)
+
+-- a reading changes nothing in any case
+pub record Reads (n : ℕ) (answer : Said ℕ) : Type 0 where
+  pub refused : 0 < n → answer ≡ refused n
+  pub carried : n ≡ 0 → (v : ℕ) × (answer ≡ said v)
+
+pub record CallsLeave (t : List ℕ) (m : Memory) (r : Record) : Type 0 where
+  pub load : (ns owns : List ℕ) → Leaves (loadRefusal t m r ns owns) r m (loadCall t m r ns owns)
+  pub replace : (point : ℕ) (new newOwns : List ℕ) → Leaves (replaceRefusal t m r point new newOwns) r m (replaceCall t m r point new newOwns)
+  pub step : Leaves (stepRefusal t m r) r m (stepCall t m r)
+  pub run : (budget : ℕ) → Leaves (stepRefusal t m r) r m (runCall t m r budget)
+  pub read : (x : ℕ) → Reads (readRefusal t m r x) (readCall t m r x)
+
+abbrev pub AllLeave : Type 0
+AllLeave = (t : List ℕ) (m : Memory) (r : Record) → CallsLeave t m r
