@@ -1,3 +1,4 @@
 pub mod Computed
 pub mod Checks
 pub mod Refusing
+pub mod Within

@@ -4,4 +4,5 @@ pub mod Refusals
 pub mod Steps
 pub mod Calls
 pub mod Refused
+pub mod Within
 pub mod Cases

@@ -131,32 +131,6 @@ pub record GivenExactly (t : List ℕ) (m : Memory) (r : Record) : Type 0 where
 abbrev pub AllGivenExactly : Type 0
 AllGivenExactly = (t : List ℕ) (m : Memory) (r : Record) → GivenExactly t m r
 
--- ---- the two conditions with many parts
-
--- "15: a lent buffer for the held tree or its sets is shorter than 512 nodes or 4,096 sets"
-pub record Roomy (m : Memory) : Type 0 where
-  pub productions : 512 ≤ length (m .productions)
-  pub owns : 512 ≤ length (m .owns)
-  pub sets : 4096 ≤ length (m .sets)
-  pub before : 4096 ≤ length (m .before)
-
-abbrev pub ShortMeans : Type 0
-ShortMeans = (m : Memory) → (short m ≡ false) ↔ Roomy m
-
--- "11: a record field is beyond its limit, or an open record's point or new part lies outside the tree"
-pub record WithinLimits (r : Record) : Type 0 where
-  pub nodes : r .nodes ≤ 512
-  pub point : r .point ≤ 512
-  pub part : r .part ≤ 512
-  pub rank : r .rank ≤ 4092
-  pub round : r .round ≤ 262145
-  pub circles : r .circles ≤ 4092
-  pub evaluations : r .evaluations ≤ 1073745920
-  pub inside : isOpen (r .«open») ≡ true → r .point < r .nodes and r .point + r .part ≤ r .nodes
-
-abbrev pub BeyondMeans : Type 0
-BeyondMeans = (r : Record) → (beyond r ≡ false) ↔ WithinLimits r
-
 -- ---- "A refusal returns its number and changes nothing lent."
 
 -- a call that refuses by n answers n and leaves all; one that refuses nothing answers what was asked for
