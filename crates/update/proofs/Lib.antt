@@ -2,3 +2,4 @@ pub mod Computed
 pub mod Checks
 pub mod Refusing
 pub mod Within
+pub mod Stepping

@@ -5,4 +5,5 @@ pub mod Steps
 pub mod Calls
 pub mod Refused
 pub mod Within
+pub mod Demands
 pub mod Cases
