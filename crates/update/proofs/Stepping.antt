@@ -27,7 +27,7 @@ use Rattle.climb.proofs.Finishing.{all-limits}
 use Rattle.climb.proofs.Storing.{length-stores, in-memory}
 use Rattle.update.specs.declared.Record.{Record}
 use Rattle.update.specs.Records.{shut, working}
-use Rattle.update.specs.Steps.{sownOf, changedOf, roundNumber, fromOf, toOf, closedOf, roundRecord, round, done, Made, roundMade, doneMade, dueFrom, stepOf}
+use Rattle.update.specs.Steps.{sownOf, survives, changedOf, roundNumber, fromOf, toOf, closedOf, roundRecord, round, done, Made, roundMade, doneMade, dueFrom, stepOf}
 use Rattle.update.specs.Demands.{Begins, Scheduled, Phase, between, climbing, Stands, RoundDone, NextRound, recordAt}
 
 -- ---- the last round of a climb is the one that closes it
@@ -156,6 +156,10 @@ module _ (S : System) (R : List (List ℕ)) (r : Record) (before : List ℕ) (B 
   unfolding roundsAt
   round-flag i j s p l g = phase-round i j s p l g .closed
 
+  one : (i : ℕ) → 0 < roundsAt S R sown b i
+  unfolding roundsAt
+  one i = climb i .takes .some
+
   still-on : (i j : ℕ) → j < roundsAt S R sown b i → loneOf (graphOf S) (circleAt R i) || stillOf S (circleAt R i) (after i) j ≡ eqb (suc j) (roundsAt S R sown b i)
   unfolding roundsAt
   still-on i j l = closes-at S (circleAt R i) (after i) (climb i) j l
@@ -231,3 +235,89 @@ module _ (S : System) (R : List (List ℕ)) (r : Record) (before : List ℕ) (B 
             time = omega arith;
             places = d .places ∙ p;
           }
+
+  -- where the step looks
+  abbrev Look : List ℕ → ℕ → ℕ → Type 0
+  Look s i j = Found (λ n. dueOf S sown b (at s) (circleAt R n)) (length R - i) i j
+
+  look : (i k c e : ℕ) (s : List ℕ) → Look s i (dueFrom S R (working r i k c e) before s)
+  unfolding dueFrom sownOf
+  look i k c e s = least-from (λ n. dueOf S sown b (at s) (circleAt R n)) (length R - i) i
+
+  step-round : (i k c e : ℕ) (s : List ℕ) (j n : ℕ) → dueFrom S R (working r i k c e) before s ≡ j → j < length R → roundNumber (working r i k c e) j ≡ n
+      → stepOf S R (working r i k c e) before s ≡ roundMade S (circleAt R j) (working r i k c e) j n s
+  unfolding stepOf
+  step-round i k c e s j n p l q = rw (p, lt-ltb j (length R) l, q)
+
+  step-done : (i k c e : ℕ) (s : List ℕ) → length R ≤ dueFrom S R (working r i k c e) before s
+      → stepOf S R (working r i k c e) before s ≡ record { outcome = done c e (changedOf S r before s); next = shut (r .held) (r .nodes); sets = s }
+  unfolding stepOf doneMade changedOf survives
+  step-done i k c e s l = rw (le-ltb (dueFrom S R (working r i k c e) before s) (length R) l)
+
+  abbrev Law : ℕ → List ℕ → Made → Type 0
+  Law t s m = NextRound S R r before t s m ⊎ Ended S R r before t s m
+
+  -- between two circles: the first that is due, or done
+  between-law : (t i c e : ℕ) (s : List ℕ) → i ≤ length R → at s ≡ after i → t ≡ roundsTo S R sown b i → length s ≡ length before
+      → c ≡ circlesTo S R sown b i → e ≡ evaluationsTo S R sown b i → Law t s (stepOf S R (working r i 0 c e) before s)
+  unfolding workedOf
+  between-law t i c e s n v ht p hc he = ⊎-elim some none (either (ltb j (length R)))
+    where
+      j : ℕ
+      j = dueFrom S R (working r i 0 c e) before s
+
+      f : Look s i j
+      f = look i 0 c e s
+
+      q : Passed S R sown b i j
+      q = passed S R sown b i j (f .from) (λ k h l. sym (ap (λ (u : Assignment). dueOf S sown b u (circleAt R k)) v) ∙ f .below k h l)
+
+      w : at s ≡ after j
+      w = v ∙ sym (q .value)
+
+      some : ltb j (length R) ≡ true → Law t s (stepOf S R (working r i 0 c e) before s)
+      some h =
+          let l : j < length R = ltb-true j (length R) h in
+          let d : workedOf S R sown b j ≡ true = sym (ap (λ (u : Assignment). dueOf S sown b u (circleAt R j)) w) ∙ f .here (omega arith) in
+          inl (rw (step-round i 0 c e s j 1 refl l (round-first r i c e j))
+          (going t j 0 i 0 c e s l d (one j) p (between w)
+          (omega (arith, q .rounds)) (hc ∙ sym (q .circles)) (omega (arith, q .evaluations))))
+
+      none : ltb j (length R) ≡ false → Law t s (stepOf S R (working r i 0 c e) before s)
+      none h =
+          let l : length R ≤ j = ltb-false j (length R) h in
+          let z : j ≡ length R = omega (arith, f .upto) in
+          let a : Passed S R sown b i (length R) = rw z at q in
+          inr (rw (step-done i 0 c e s l) (record {
+            time = ht ∙ sym (a .rounds);
+            value = v ∙ sym (a .value);
+            made = rw (hc ∙ sym (a .circles), he ∙ sym (a .evaluations));
+          }))
+
+  -- a circle at work is due still: what it reads outside is as it was
+  stays-due : (i k c e : ℕ) (s : List ℕ) (n : ℕ) → workedOf S R sown b i ≡ true → at s ≡ stage S (member (circleAt R i)) (after i) n
+      → dueFrom S R (working r i k c e) before s ≡ i
+  unfolding workedOf
+  stays-due i k c e s n w v = ⊎-elim (λ e. sym e) (λ l. absurd (true≢false (sym d ∙ f .below i (le-refl i) l))) (eq-or-lt-of-le (f .from))
+    where
+      f : Look s i (dueFrom S R (working r i k c e) before s)
+      f = look i k c e s
+
+      d : dueOf S sown b (at s) (circleAt R i) ≡ true
+      d = due-agree S sown b (circleAt R i) (at s) (after i)
+          (λ x m y a o. ap (λ (u : Assignment). u y) v ∙ stage-out S (member (circleAt R i)) (after i) n y o) ∙ w
+
+  phase-law : (t i k : ℕ) (s : List ℕ) → i ≤ length R → Phase S R sown b i k (at s) → t ≡ roundsTo S R sown b i + k → length s ≡ length before
+      → Law t s (stepOf S R (recordAt S R r before i k) before s)
+  phase-law t i zero s n (between v) ht p = between-law t i _ _ s n v (omega arith) p refl (omega arith)
+  phase-law t i (suc k) s n (climbing l w o f v) ht p =
+      let c = circlesTo S R sown b i in
+      let e = evaluationsTo S R sown b i + length (circleAt R i) * suc k in
+      let q : dueFrom S R (working r i (suc k) c e) before s ≡ i = stays-due i (suc k) c e s (suc k) w v in
+      let h : suc (suc k) ≤ 262145 = omega (arith, all-limits S (B .lawful) R (B .ranked) sown b (B .small) .rounds i l) in
+      inl (rw (step-round i (suc k) c e s i (suc (suc k)) q l (round-next r i (suc k) c e h))
+      (going t i (suc k) i (suc k) c e s l w f p (climbing l w o f v) ht refl refl))
+
+  -- from where an update stands a step goes on, or ends it
+  pub step-law : (t : ℕ) (now : Record) (s : List ℕ) → Stands S R r before t now s → Law t s (stepOf S R now before s)
+  step-law t now s g = rw (g .numbers) (phase-law t (g .i) (g .k) s (g .rank) (g .phase) (g .time) (g .places))
