@@ -3,3 +3,5 @@ pub mod Checks
 pub mod Refusing
 pub mod Within
 pub mod Stepping
+pub mod Scheduling
+pub mod Running
