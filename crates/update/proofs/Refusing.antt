@@ -1,14 +1,12 @@
 -- Every call gives each of its numbers exactly when document 01 says. Assumes nothing.
 use mathlib.Core.Path.{_≡_, refl, sym, ap, _∙_}
-use mathlib.Core.Bool.{Bool, true, false, not}
 use mathlib.Core.List.{List, [], _∷_, _++_, List·Memᴰ·head, List·Memᴰ·tail, List·Memᴰ·not-nil}
-use Prim.Native.Nat.{ℕ, zero, suc, _≤_, _<_, _+_, _-_}
+use Prim.Native.Nat.{ℕ, zero, suc, _<_}
 use native.Mathlib.Omega.{arith}
 use lib.ListN.{length, getD}
-use Rattle.table.specs.First.{first, orElse}
+use Rattle.table.specs.First.{first}
 use Rattle.table.specs.Words.{leftOf}
 use Rattle.table.proofs.FirstLaws.{or-left, or-right, or-none}
-use Rattle.tree.specs.Replace.{part}
 use Rattle.climb.specs.Memory.{at}
 use Rattle.wire.specs.Instances.{declared}
 use Rattle.circles.specs.Graph.{_∈_}
@@ -16,8 +14,8 @@ use Rattle.update.specs.declared.Record.{Record}
 use Rattle.update.specs.Records.{isOpen, beyond}
 use Rattle.update.specs.Memories.{Memory, nodesOf, ownsOf}
 use Rattle.update.specs.Refusals.{firstRefusal, short, loadRefusal, passes, replaceRefusal, stepRefusal, readRefusal, dumpRefusal}
-use Rattle.update.specs.Refused.{FirstGives, LoadGives, ReplaceGives, StepGives, LookGives, ReadGives, DumpGives, GivenExactly, AllGivenExactly, Refuses, RefusesExactly, OneRefusal, NoneRefuses, Leaves, Reads, AllLeave, replacedNodes}
-use Rattle.update.specs.Calls.{Said, refused, said, Left, unless as unless′, is-open, loadCall, replaceCall, stepCall, runCall, unlessRead, readCall}
+use Rattle.update.specs.Refused.{LoadGives, ReplaceGives, StepGives, ReadGives, DumpGives, AllGivenExactly, Refuses, RefusesExactly, OneRefusal, NoneRefuses, Leaves, Reads, AllLeave, replacedNodes}
+use Rattle.update.specs.Calls.{refused, said, unless as unless′, is-open, loadCall, replaceCall, stepCall, runCall, unlessRead, readCall}
 use Rattle.update.proofs.Checks.{Check, if, unless, above, outside, table, tree, number, table-number, tree-number, nothing, among}
 
 module _ (t : List ℕ) (m : Memory) (r : Record) where

@@ -1,24 +1,24 @@
 -- Runs of an update just opened: where they pause, when they finish, and what is left then. Assumes nothing.
 use mathlib.Core.Path.{_≡_, refl, sym, ap, _∙_, fun-ext}
-use mathlib.Core.Bool.{Bool, true, false, cond}
+use mathlib.Core.Bool.{Bool, true, cond}
 use mathlib.Core.Logic.{_⊎_, inl, inr, ⊎-elim}
 use mathlib.Core.List.{List}
 use Prim.Native.Nat.{ℕ, zero, suc, _+_, _-_, _*_, _≤_, _<_, zero-le}
 use native.Mathlib.Nat.{zero-add, add-zero, le-trans}
 use native.Mathlib.Omega.{arith}
 use lib.ListN.{length}
-use Rattle.climb.specs.System.{Assignment, System, Least}
+use Rattle.climb.specs.System.{Assignment, System}
 use Rattle.climb.specs.Climb.{roundsOf}
-use Rattle.climb.specs.Circuit.{sumTo, circleAt, dueOf, afterOf, workedOf, roundsAt, circlesTo, roundsTo, evaluationsTo, Kept}
+use Rattle.climb.specs.Circuit.{sumTo, circleAt, dueOf, afterOf, workedOf, roundsAt, circlesTo, roundsTo, evaluationsTo}
 use Rattle.climb.specs.Memory.{at}
 use Rattle.climb.specs.CircuitLaws.{Limits}
 use Rattle.climb.proofs.Sums.{sum-mono}
 use Rattle.climb.proofs.Finishing.{final-least, all-final, load-most, load-kept, all-limits}
 use Rattle.update.specs.declared.Record.{Record}
-use Rattle.update.specs.Records.{isLoad, isOpen, beyond, shut, working}
+use Rattle.update.specs.Records.{isLoad, shut, working}
 use Rattle.update.specs.Within.{WithinLimits}
 use Rattle.update.specs.Steps.{sownOf, changedOf, Outcome, round, done, onward, Made, stepOf, paused, finished, Ran, runOf}
-use Rattle.update.specs.Demands.{Begins, ranOf, wholeOf, Scheduled, Phase, between, climbing, Stands, RoundDone, NextRound, NthRound, EachRound, Pauses, AllPause, Finishes, AllFinish, RunsOn, LeastAtDone, LoadIsKept, LoadEvaluates, Below, NeverAtLimits, NeverBeyond, recordAt}
+use Rattle.update.specs.Demands.{Begins, ranOf, wholeOf, Phase, between, climbing, Stands, NextRound, NthRound, EachRound, Pauses, AllPause, AllFinish, RunsOn, LeastAtDone, LoadIsKept, LoadEvaluates, Below, NeverAtLimits, NeverBeyond, recordAt}
 use Rattle.update.proofs.Within.{beyond-means}
 use Rattle.update.proofs.Stepping.{Ended, step-law}
 use Rattle.update.proofs.Scheduling.{rounds-mono, rounds-behind, one-schedule}

@@ -1,5 +1,5 @@
 -- The schedule of an update: its rounds follow each other circle by circle, and no second schedule fits. Assumes nothing.
-use mathlib.Core.Path.{_≡_, sym, ap}
+use mathlib.Core.Path.{_≡_, ap}
 use mathlib.Core.Bool.{Bool, true, cond}
 use mathlib.Core.Logic.{⊎-elim}
 use mathlib.Core.List.{List}

@@ -1,6 +1,6 @@
 -- One step: a round is a stage of the circle's climb, and between two steps the record and the sets stand where the schedule has them. Assumes nothing.
 use mathlib.Core.Path.{_≡_, refl, sym, ap, _∙_}
-use mathlib.Core.Bool.{Bool, true, false, cond, not, _&&_, _||_, true≢false, or-true}
+use mathlib.Core.Bool.{Bool, true, false, cond, _||_, true≢false, or-true}
 use mathlib.Core.Logic.{_⊎_, inl, inr, ⊎-elim}
 use mathlib.Core.List.{List}
 use Prim.Native.Nat.{ℕ, zero, suc, _+_, _-_, _*_, _≤_, _<_, min}
@@ -8,13 +8,12 @@ use native.Mathlib.Nat.{eq-or-lt-of-le, le-refl, min-eq-left}
 use native.Mathlib.Omega.{arith}
 use lib.Dec.{eqb, ltb}
 use borrow.Author.Tests.{eqb-true, eq-eqb, ne-eqb, eqb-false, lt-ltb, le-ltb, ltb-true, ltb-false}
-use lib.ListN.{length, getD}
-use Rattle.circles.specs.Ranked.{member, allOf, loneOf}
+use lib.ListN.{length}
+use Rattle.circles.specs.Ranked.{member, loneOf}
 use Rattle.climb.specs.System.{Assignment, System, graphOf, Lawful}
-use Rattle.climb.specs.Climb.{stage, stillOf, roundsOf, leastFrom}
-use Rattle.climb.specs.Inside.{Small}
+use Rattle.climb.specs.Climb.{stage, stillOf, roundsOf}
 use Rattle.climb.specs.Laws.{Climbs, Shuts}
-use Rattle.climb.specs.Circuit.{circleAt, dueOf, afterOf, workedOf, roundsAt, circlesTo, roundsTo, evaluationsTo, Ranked}
+use Rattle.climb.specs.Circuit.{circleAt, dueOf, afterOf, workedOf, roundsAt, circlesTo, roundsTo, evaluationsTo}
 use Rattle.climb.specs.CircuitLaws.{Passed, Limits}
 use Rattle.climb.specs.Memory.{at, emptyOn, roundOn, Within}
 use Rattle.climb.proofs.Lists.{either, or-false-is, Found, least-from}
@@ -28,7 +27,7 @@ use Rattle.climb.proofs.Storing.{length-stores, in-memory}
 use Rattle.update.specs.declared.Record.{Record}
 use Rattle.update.specs.Records.{shut, working}
 use Rattle.update.specs.Steps.{sownOf, survives, changedOf, roundNumber, fromOf, toOf, closedOf, roundRecord, round, done, Made, roundMade, doneMade, dueFrom, stepOf}
-use Rattle.update.specs.Demands.{Begins, Scheduled, Phase, between, climbing, Stands, RoundDone, NextRound, recordAt}
+use Rattle.update.specs.Demands.{Begins, Phase, between, climbing, Stands, NextRound, recordAt}
 
 -- ---- the last round of a climb is the one that closes it
 

@@ -1,19 +1,17 @@
 -- Buffers that are long enough, and records within their limits. Assumes nothing.
 use mathlib.Core.Path.{_≡_, refl, sym}
-use mathlib.Core.Bool.{Bool, true, false, _&&_, _||_, true≢false}
+use mathlib.Core.Bool.{true, false, true≢false}
 use mathlib.Core.Logic.{⊎-elim}
-use Prim.Native.Nat.{ℕ, _+_, _≤_, _<_}
+use Prim.Native.Nat.{_+_}
 use native.Mathlib.Omega.{arith}
-use lib.Dec.{ltb, leb}
 use lib.ListN.{length}
 use borrow.Author.Tests.{ltb-false, leb-false, le-ltb, lt-leb}
 use Rattle.climb.proofs.Lists.{either, or-false-is}
-use Rattle.update.specs.declared.Open.{Open}
 use Rattle.update.specs.declared.Record.{Record}
 use Rattle.update.specs.Records.{isOpen, beyond, opened, shut}
 use Rattle.update.specs.Memories.{Memory}
 use Rattle.update.specs.Refusals.{short}
-use Rattle.update.specs.Within.{Roomy, ShortMeans, WithinLimits, BeyondMeans, Fresh, Opens, AllOpen, Shuts, AllShut}
+use Rattle.update.specs.Within.{Roomy, ShortMeans, WithinLimits, BeyondMeans, AllOpen, AllShut}
 
 roomy : (m : Memory) → short m ≡ false → Roomy m
 unfolding short

@@ -1,10 +1,8 @@
 -- The engine's calls, each whole: for any table, tree, record and memory what it answers and what it leaves in the record and in every buffer.
 -- "A refusal returns its number and changes nothing lent." Assumes nothing.
-use mathlib.Core.Bool.{Bool, _&&_}
-use mathlib.Core.List.{List, [], _∷_}
+use mathlib.Core.List.{List}
 use Prim.Native.Nat.{ℕ, zero, suc, _+_, _-_, _*_}
 use lib.ListN.{length}
-use Rattle.refusal.specs.declared.Verdict.{Verdict}
 use Rattle.refusal.specs.Numbers.{numberOf}
 use Rattle.tree.specs.Replace.{part}
 use Rattle.circles.specs.Ranked.{ranked, keep, upFrom}

@@ -2,7 +2,7 @@
 use mathlib.Core.Path.{_≡_}
 use mathlib.Core.Bool.{Bool, true, false}
 use mathlib.Core.List.{List}
-use Prim.Native.Nat.{ℕ, zero, suc, _+_, _*_, _≤_, _<_}
+use Prim.Native.Nat.{ℕ, suc, _+_, _*_, _≤_, _<_}
 use lib.Dec.{eqb}
 use lib.ListN.{length, getD}
 use Rattle.circles.specs.Ranked.{member, loneOf}
@@ -14,7 +14,7 @@ use Rattle.climb.specs.Memory.{at}
 use Rattle.update.specs.declared.Record.{Record}
 use Rattle.update.specs.Records.{isLoad, beyond, shut, working}
 use Rattle.update.specs.Within.{Fresh}
-use Rattle.update.specs.Steps.{sownOf, changedOf, Outcome, round, done, Made, stepOf, Ending, paused, finished, Ran, runOf}
+use Rattle.update.specs.Steps.{sownOf, changedOf, round, Made, stepOf, paused, finished, Ran, runOf}
 
 -- ---- an update just opened, over a lawful system S and its circles R by rank
 

@@ -6,4 +6,5 @@ pub mod Calls
 pub mod Refused
 pub mod Within
 pub mod Demands
+pub mod Meaning
 pub mod Cases
