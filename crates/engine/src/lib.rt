@@ -1,3 +1,0 @@
-// The engine's calls on lent memory.
-mod buffers;
-pub mod memory;
