@@ -21,7 +21,7 @@ pub data Good (t : List ℕ) : List ℕ → List ℕ → List ℕ → Type 0 whe
   begin : {wanted : List ℕ} → Good t wanted [] wanted
   next : {p s : ℕ} {wanted ns left : List ℕ} → p < productionCount t → leftOf t p ≡ s → Good t (children t p ++ wanted) ns left → Good t (s ∷ wanted) (p ∷ ns) left
 
--- the first bad node has a production number that isn't below the count
+-- "6: a node's production number isn't below the count": the first bad node has a production number that isn't below the count
 pub record Number (t wanted ns : List ℕ) : Type 0 where
   pub before : List ℕ
   pub node : ℕ
@@ -31,7 +31,7 @@ pub record Number (t wanted ns : List ℕ) : Type 0 where
   pub good : Good t wanted before left
   pub wrong : productionCount t ≤ node
 
--- nodes are missing; or the first bad node is left over, or is of a wrong symbol, while its production number is below the count
+-- "7: no nodes, nodes missing or left over, or a wrong symbol", "6 before 7 at a node": nodes are missing; or the first bad node is left over, or is of a wrong symbol, while its production number is below the count
 pub data Shape (t wanted ns : List ℕ) : Type 0 where
   missing : (s : ℕ) (left : List ℕ) → Good t wanted ns (s ∷ left) → Shape t wanted ns
   over : (before : List ℕ) (p : ℕ) (behind : List ℕ) → ns ≡ before ++ (p ∷ behind) → Good t wanted before [] → p < productionCount t → Shape t wanted ns

@@ -1,4 +1,4 @@
--- Each node of a tree but the first is one child of one node. Assumes nothing.
+-- "each child in the row is again a subtree": each node of a tree but the first is one child of one node. Assumes nothing.
 use Prim.Native.Nat.{ℕ, _<_}
 use mathlib.Core.Path.{_≡_}
 use mathlib.Core.List.{List, [], _∷_}
