@@ -13,7 +13,7 @@ use Rattle.climb.specs.System.{Assignment, System, Lawful, Least}
 use Rattle.climb.specs.Climb.{stage, Closed, roundsOf}
 use Rattle.climb.specs.Inside.{Small, Agree}
 use Rattle.climb.specs.Ordered.{And, Next}
-use Rattle.climb.specs.Circuit.{sumTo, circleAt, dueOf, afterOf, workedOf, roundsAt, circlesTo, evaluationsTo, Ranked, Kept}
+use Rattle.climb.specs.Circuit.{sumTo, circleAt, dueOf, afterOf, workedOf, roundsAt, circlesTo, roundsTo, evaluationsTo, Ranked, Kept}
 use Rattle.climb.specs.CircuitLaws.{FinalLeast, Final, AllFinal, LoadKept, Stays, ReplacedKept, LoadMost, Limits, AllLimits}
 use Rattle.climb.proofs.Lists.{either, member-in, in-upFrom}
 use Rattle.climb.proofs.Systems.{gains-inside, lawful-inside, least-unique}
@@ -174,12 +174,26 @@ module _ (S : System) (L : Lawful S) (R : List (List ℕ)) (r : Ranked S R) (sow
       let z = evaluations-le in
       omega arith
 
-  circles-le : circlesTo S R sown b (length R) ≤ length R
-  circles-le = rw (sum-one (length R)) at
-      (sum-le (λ j. cond (workedOf S R sown b j) 1 0) (λ j. 1) (length R) (λ j l. cond-le (workedOf S R sown b j) 1 1 (le-refl 1)))
+  circles-le : (n : ℕ) → circlesTo S R sown b n ≤ n
+  circles-le n = rw (sum-one n) at
+      (sum-le (λ j. cond (workedOf S R sown b j) 1 0) (λ j. 1) n (λ j l. cond-le (workedOf S R sown b j) 1 1 (le-refl 1)))
+
+  made-le : roundsTo S R sown b (length R) ≤ 1072697340
+  made-le =
+      let h : roundsTo S R sown b (length R) ≤ sumTo (λ j. 1 * 262145) (length R) =
+      sum-le (λ j. cond (workedOf S R sown b j) (roundsAt S R sown b j) 0) (λ j. 1 * 262145) (length R)
+      (λ j l. cond-le (workedOf S R sown b j) (roundsAt S R sown b j) (1 * 262145) (rounds-le j l)) in
+      omega (arith, h, sum-times (λ j. 1) 262145 (length R), sum-one (length R), r .count)
 
   limits : Limits S R sown b
-  limits = record { circles = le-trans circles-le (r .count); rounds = rounds-le; evaluations = evaluations-le; midst = evaluations-in }
+  limits = record {
+    circles = le-trans (circles-le (length R)) (r .count);
+    rounds = rounds-le;
+    evaluations = evaluations-le;
+    made = made-le;
+    circle = λ i l. omega (arith, circles-le i, r .count);
+    midst = evaluations-in;
+  }
 
 pub all-limits : AllLimits
 all-limits S L R r sown b small = limits S L R r sown b small

@@ -62,7 +62,10 @@ pub record Limits (S : System) (R : List (List ℕ)) (sown : ℕ → Bool) (b : 
   pub circles : circlesTo S R sown b (length R) ≤ 4092
   pub rounds : (i : ℕ) → i < length R → roundsAt S R sown b i ≤ 262145
   pub evaluations : evaluationsTo S R sown b (length R) ≤ 1073745920
-  -- nor does it in the midst of a climb, when k rounds of circle i are made and one more is to be
+  -- 4,092 circles of 262,145 rounds
+  pub made : roundsTo S R sown b (length R) ≤ 1072697340
+  -- nor does it in the midst, when circle i is yet to close, k of its rounds are made and one more is to be
+  pub circle : (i : ℕ) → i < length R → suc (circlesTo S R sown b i) ≤ 4092
   pub midst : (i k : ℕ) → i < length R → workedOf S R sown b i ≡ true → k < roundsAt S R sown b i
       → evaluationsTo S R sown b i + length (circleAt R i) * k + length (circleAt R i) ≤ 1073745920
 
