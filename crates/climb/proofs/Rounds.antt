@@ -1,7 +1,7 @@
 -- The number of rounds that a climb takes: there is one, `roundsOf` is it, and it is small. Assumes nothing.
 use mathlib.Core.Path.{_≡_, refl, sym, ap, _∙_, fun-ext}
 use mathlib.Core.Bool.{Bool, true, false, cond, _||_, or-true, true≢false}
-use mathlib.Core.Logic.{_⊎_, inl, inr, ⊎-elim}
+use mathlib.Core.Logic.{inl, inr, ⊎-elim}
 use mathlib.Core.List.{List, [], _∷_}
 use Prim.Native.Nat.{ℕ, zero, suc, _+_, _-_, _*_, _≤_, _<_, zero-le}
 use native.Mathlib.Nat.{eq-or-lt-of-le, le-refl, le-trans, sub-add-cancel}
@@ -10,11 +10,11 @@ use lib.Dec.{eqb}
 use borrow.Author.Tests.{eqb-true, eq-eqb, ne-eqb, not-true}
 use lib.ListN.{length}
 use Rattle.circles.specs.Graph.{_∈_}
-use Rattle.circles.specs.Ranked.{member, allOf, loneOf}
+use Rattle.circles.specs.Ranked.{member, loneOf}
 use Rattle.climb.specs.System.{Assignment, System, graphOf, weight}
 use Rattle.climb.specs.Climb.{stage, Closed, stillOf, leastFrom, roundsOf}
-use Rattle.climb.specs.Inside.{GainingIn, LawfulIn, Small, Agree}
-use Rattle.climb.specs.Laws.{StillMeans, Shuts, Takes, TakesUnique, TakesLast, Climbs, AllClimb, Alike, AgreeAlike, Lone, LoneOnce}
+use Rattle.climb.specs.Inside.{LawfulIn, Small}
+use Rattle.climb.specs.Laws.{StillMeans, Shuts, TakesUnique, TakesLast, Climbs, AllClimb, AgreeAlike, LoneOnce}
 use Rattle.climb.proofs.Lists.{either, le-or-lt, member-in, member-of, only-member, all-is, is-all, all-cong, Found, least-from}
 use Rattle.climb.proofs.Systems.{local-in, weight-cong, weight-le}
 use Rattle.climb.proofs.Stages.{stage-out, stage-in, stage-small, next-closed, closed-next, closed-later, closes}

@@ -32,7 +32,7 @@ pub record Same (S S′ : System) (C₀ C : ℕ → Bool) (φ : ℕ → ℕ) : T
 abbrev pub Outside : System → (ℕ → Bool) → (ℕ → ℕ) → Assignment → Assignment → Type 0
 Outside S′ C φ v u = (x : ℕ) → C x ≡ true → (y : ℕ) → y ∈ S′ .args x → C y ≡ false → u y ≡ v (φ y)
 
--- "If its outside arguments kept their before values, then its old values are what its climb from empty would give."
+-- "If its outside arguments kept their before values, then [..] its old values are what its climb from empty would give."
 abbrev pub Renamed : Type 0
 Renamed = (S S′ : System) → Lawful S → (C₀ C : ℕ → Bool) (φ : ℕ → ℕ) → Same S S′ C₀ C φ → (v u : Assignment) → Outside S′ C φ v u
     → Least S v → ((z : ℕ) → C₀ z ≡ true → S .declared z ≡ true) → (k : ℕ) → Closed S C₀ v k
