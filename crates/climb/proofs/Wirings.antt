@@ -21,7 +21,6 @@ use Rattle.table.specs.Equations.{operations, opNumber, opOf, equationAt}
 use Rattle.circles.specs.Graph.{_∈_}
 use Rattle.circles.specs.Arrays.{given}
 use Rattle.circles.specs.Arrays as arrays
-use Rattle.climb.specs.System.{Assignment}
 use Rattle.climb.specs.Inside.{Small}
 use Rattle.climb.specs.Memory.{at}
 use Rattle.climb.specs.Wired.{readOf, evalOf, WiredGraph, WiredLawful}

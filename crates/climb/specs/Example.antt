@@ -1,5 +1,5 @@
 -- Session A's load: its circle {8, 12, 16, 20} climbs from empty in five rounds, to four members. Assumes nothing.
-use Prim.Native.Nat.{ℕ, zero, suc}
+use Prim.Native.Nat.{ℕ}
 use mathlib.Core.Path.{_≡_, refl}
 use mathlib.Core.List.{List, [], _∷_}
 use lib.ListN.{set, replicate}

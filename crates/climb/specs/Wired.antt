@@ -1,7 +1,7 @@
 -- The system that the wiring holds: for each slot its two arguments, the node whose own set its equation may read, and its rule in the table.
 -- Assumes nothing.
 use mathlib.Core.Path.{_≡_}
-use mathlib.Core.Bool.{Bool, true, cond}
+use mathlib.Core.Bool.{true, cond}
 use mathlib.Core.List.{List}
 use Prim.Native.Nat.{ℕ, _≤_, _<_}
 use lib.Dec.{ltb}
@@ -18,7 +18,7 @@ use Rattle.climb.specs.Memory.{at}
 abbrev pub readOf : ℕ → Assignment → ℕ → ℕ
 readOf n v y = cond (ltb y n) (v y) 0
 
--- the value of the equation of x: t are the table's words, owns the nodes' own sets, left[x] is the left node of the equation
+-- "An equation holds one operation with its own arguments a, b and constant c": the value of the equation of x; t are the table's words, owns the nodes' own sets, left[x] is the left node of the equation
 unfoldable pub evalOf : ℕ → List ℕ → List ℕ → List ℕ → List ℕ → List ℕ → List ℕ → Assignment → ℕ → ℕ
 evalOf n t owns a b left rule v x =
     valueOf (equationAt t (getD rule x 0) .op) (getD owns (getD left x 0) 0) (readOf n v (getD a x 65534)) (readOf n v (getD b x 65534))
