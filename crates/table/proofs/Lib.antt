@@ -1,0 +1,9 @@
+pub mod FirstLaws
+pub mod Parts
+pub mod Holds
+pub mod Sound
+pub mod Refused
+pub mod Limits
+pub mod Same
+pub mod Local
+pub mod Steps

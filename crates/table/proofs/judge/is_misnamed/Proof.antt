@@ -1,0 +1,18 @@
+-- An argument that is used, and is no declared occurrence. Assumes nothing.
+use Rattle.table.specs.Judge.{misnamed}
+use mathlib.Core.Path.{sym, _∙_}
+use borrow.Author.Needs.{needs}
+use Rattle.table.proofs.judge.is_misnamed.Statement.{statement}
+use Rattle.table.proofs.judge.is_misnamed.Tie as tie
+
+returns : tie.Need-returns
+unfolding misnamed
+returns c = rw (c .before .before .before .before .if1 .taken, ← c .before .before .before .number .ensures, ← c .before .before .number2 .ensures, sym (c .before .occurs-at .ensures) ∙ c .if2 .taken)
+
+returns-2 : tie.Need-returns-2
+unfolding misnamed
+returns-2 c = rw (c .before .before .before .before .if1 .taken, ← c .before .before .before .number .ensures, ← c .before .before .number2 .ensures, sym (c .before .occurs-at .ensures) ∙ c .if2 .left)
+
+pub is-misnamed-spec : {M : Type 1} → statement M
+unfolding misnamed
+is-misnamed-spec = tie.close (tie.spec (λ c κs. search needs) (λ c κs. search needs) (λ c κs. search needs) returns returns-2 (λ c. rw (c .if1 .left)))
