@@ -112,3 +112,10 @@ line-forth fs s place l e =
 pub fields-join : (k x j y : ℕ) (fs : List Field) → y < 16 ^ j → lineText (field (k + j) (x * 16 ^ j + y) ∷ fs) ≡ lineText (field k x ∷ field j y ∷ fs)
 unfolding lineText
 fields-join k x j y fs h = ap (λ (l : List ℕ). l ++ digitsOf fs ++ (10 ∷ [])) (hex-join k j x y h) ∙ ap (λ (l : List ℕ). l ++ (10 ∷ [])) (append-assoc (hexDigits k x) (hexDigits j y) (digitsOf fs))
+
+-- and behind a field
+pub join-second : (f : Field) (k x j y : ℕ) (fs : List Field) → y < 16 ^ j → lineText (f ∷ field (k + j) (x * 16 ^ j + y) ∷ fs) ≡ lineText (f ∷ field k x ∷ field j y ∷ fs)
+unfolding lineText
+join-second f k x j y fs h =
+    let d : digitsOf (field (k + j) (x * 16 ^ j + y) ∷ fs) ≡ digitsOf (field k x ∷ field j y ∷ fs) = ap (λ (l : List ℕ). l ++ digitsOf fs) (hex-join k j x y h) ∙ append-assoc (hexDigits k x) (hexDigits j y) (digitsOf fs) in
+    ap (λ (l : List ℕ). hexDigits (f .width) (f .value) ++ l ++ (10 ∷ [])) d
