@@ -1,14 +1,20 @@
 // Frames of text: one a line. Tables and trees to and from text, and what a session prints.
 mod kinds;
 mod out;
+mod plant;
+mod walk;
+mod write;
 
 pub use kinds::frame_at;
 pub use out::put_done;
 pub use out::put_refusal;
 pub use out::put_round;
 pub use out::put_set;
+pub use plant::write_tree;
 use refusal::Refusal;
 use sets::Argument;
+pub use walk::next_of;
+pub use write::write_table;
 
 // The symbols of up to four children, 0 where there is none.
 pub struct Children {
@@ -71,4 +77,19 @@ pub struct Step {
     pub frame: Frame,
     pub place: usize,
     pub line: u32,
+}
+
+// The frame of a table that comes next: the header, symbol s, production p, or of production p the equation k of position q; or none.
+pub enum Expected {
+    AtHeader,
+    AtSymbol(usize),
+    AtProduction(usize),
+    AtEquation(usize, usize, usize),
+    Ended,
+}
+
+// How many bytes were written, or why none.
+pub enum Written {
+    Length(usize),
+    Refused(Refusal),
 }

@@ -10,7 +10,7 @@ use borrow.Author.Tests.{lt-ltb, le-ltb, le-leb, lt-leb}
 use lib.ListN.{length, getD, take, drop, length-append, length-drop, List·getD-append}
 use lib.Seq.{getD-at, getD-append-add, getD-drop, take-add, take-suc, drop-drop}
 use Rattle.lines.specs.Hex.{isHex, digitsAt, numAt, hexOf, hexDigits}
-use Rattle.lines.specs.Text.{Field, field, digitsOf, widthOf, lineAt, lineText}
+use Rattle.lines.specs.Text.{Field, field, byte, digitsOf, widthOf, lineAt, lineText}
 use Rattle.lines.specs.Laws.{Written}
 use Rattle.lines.specs.declared.Line.the-variants.{Digits}
 use Rattle.lines.proofs.Values.{lt-or-ge}
@@ -119,3 +119,10 @@ unfolding lineText
 join-second f k x j y fs h =
     let d : digitsOf (field (k + j) (x * 16 ^ j + y) ∷ fs) ≡ digitsOf (field k x ∷ field j y ∷ fs) = ap (λ (l : List ℕ). l ++ digitsOf fs) (hex-join k j x y h) ∙ append-assoc (hexDigits k x) (hexDigits j y) (digitsOf fs) in
     ap (λ (l : List ℕ). hexDigits (f .width) (f .value) ++ l ++ (10 ∷ [])) d
+
+-- the last byte of a field by itself
+pub peel : (k v : ℕ) (fs : List Field) → lineText (field (k + 2) v ∷ fs) ≡ lineText (field k (v / 256) ∷ byte (v % 256) ∷ fs)
+peel k v fs = let e : v ≡ v / 256 * 256 + v % 256 = omega arith in ap (λ (x : ℕ). lineText (field (k + 2) x ∷ fs)) e ∙ fields-join k (v / 256) 2 (v % 256) fs (omega arith)
+
+pub peel-second : (f : Field) (k v : ℕ) (fs : List Field) → lineText (f ∷ field (k + 2) v ∷ fs) ≡ lineText (f ∷ field k (v / 256) ∷ byte (v % 256) ∷ fs)
+peel-second f k v fs = let e : v ≡ v / 256 * 256 + v % 256 = omega arith in ap (λ (x : ℕ). lineText (f ∷ field (k + 2) x ∷ fs)) e ∙ join-second f k (v / 256) 2 (v % 256) fs (omega arith)
