@@ -1,0 +1,4 @@
+pub mod Printed
+pub mod Order
+pub mod Shown
+pub mod Writing

@@ -1,0 +1,5 @@
+pub mod Frames
+pub mod Out
+pub mod Text
+pub mod Walk
+pub mod Written
