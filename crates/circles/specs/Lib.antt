@@ -2,3 +2,5 @@ pub mod Graph
 pub mod Ranked
 pub mod Arrays
 pub mod Example
+pub mod Search
+pub mod Labels

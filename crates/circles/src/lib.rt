@@ -1,2 +1,2 @@
 // Circles.
-pub fn nothing() {}
+mod labels;

@@ -1,0 +1,6 @@
+pub mod Paths
+pub mod Stamps
+pub mod Front
+pub mod Chains
+pub mod Sweeps
+pub mod Rounds
