@@ -6,7 +6,7 @@ use mathlib.Core.Path.{_≡_, refl, sym, ap, subst, subst₂, _∙_}
 use mathlib.Core.Bool.{Bool, true, false, cond}
 use mathlib.Core.List.{List}
 use mathlib.Core.Logic.{_⊎_, inl, inr, dite}
-use lib.ListN.{getD, length, set, length-set}
+use lib.ListN.{getD, length, set, length-set, replicate, length-replicate, getD-replicate}
 use lib.Seq.{getD-set-same, getD-set-other}
 use lib.Dec.{eqb}
 use borrow.Author.Tests.{eq-eqb, ne-eqb}
@@ -123,3 +123,6 @@ linked-first {y} {e} {first} (on h p q) = ap length p ∙ length-set first y e
 pub linked-next : {n y e : ℕ} {first next first′ next′ : List ℕ} → Linked n y e first next first′ next′ → length next′ ≡ length next
 linked-next (off h p q) = ap length q
 linked-next {y} {e} {first} {next} (on h p q) = ap length q ∙ length-set next e (getD first y 0)
+
+pub blank-new : (n : ℕ) → n ≤ 4096 → Blank n (replicate {A = ℕ} 4096 65535)
+blank-new n h = record { long = length-replicate {A = ℕ} 4096 65535; blank = λ y yl. getD-replicate {A = ℕ} 4096 y 65535 0 (omega arith) }

@@ -1,8 +1,11 @@
 ghost use mathlib.Core.Path.{_≡_};
 ghost use Prim.Native.Nat.{ℕ, _+_, _*_, _<_, _≤_};
 ghost use lib.ListN.{getD, length};
-ghost use Rattle.circles.specs.Labels.{Reps, Stale, Took};
+ghost use Rattle.circles.specs.Arrays.{graphOf, over};
+ghost use Rattle.circles.specs.Ranked.{labelsOf};
+ghost use Rattle.circles.specs.Labels.{Given, Reps, Stale, Took, LowOf, Lowered, Kin};
 ghost use Rattle.circles.specs.Search.{Arg, argOf, placeOf, stamped, Visited, Clean, Found, Lone, Linked, Chained, Swept, Blank, Room, Back};
+use crate::order::leaving_order;
 
 pub fn wide(x: u16) -> usize
     ensures { λ r. ⌜ r ≡ x ⌝ }
@@ -245,4 +248,91 @@ fn try_circle(
         return;
     }
     take_circle(n, a, b, first, next, x, rep, seen, queue);
+}
+
+// Labels every circle of declared slots by one of its own: first in the order given, whatever that is, and then what is left.
+fn label_circles(
+    n: usize,
+    a: &[u16; 4096],
+    b: &[u16; 4096],
+    first: &[u16; 4096],
+    next: &[u16; 8192],
+    order: &[u16; 4096],
+    rep: &mut [u16; 4096],
+    seen: &mut [u16; 4096],
+    queue: &mut [u16; 4096],
+)
+    requires { ⌜ (n ≤ 4096) × Chained (argOf (now a) (now b)) (2 * n) n (now first) (now next) ⌝ }
+    requires { ⌜ Blank n (now rep) × Blank n (now seen) × (length (now queue) ≡ 4096) ⌝ }
+    ensures { λ _. ⌜ Reps n (now (a .entry)) (now (b .entry)) (now (rep .exit)) × ((y : ℕ) → y < n → (getD (now (a .entry)) y 0 ≡ 65534 → ⊥) → getD (now (rep .exit)) y 0 < n) ⌝ }
+{
+    let mut i: usize = 0;
+    while i < n {
+        try_circle(n, a, b, first, next, order[i], rep, seen, queue);
+        i += 1;
+    }
+    let mut j: usize = 0;
+    while j < n {
+        try_circle(n, a, b, first, next, j as u16, rep, seen, queue);
+        j += 1;
+    }
+}
+
+// The least slot of the label r, or none where r is none.
+fn least_of(n: usize, low: &[u16; 4096], r: u16) -> u16
+    requires { ⌜ n ≤ 4096 ⌝ }
+    ensures { λ l. ⌜ LowOf n (now (low .entry)) r l ⌝ }
+{
+    let i = wide(r);
+    if n <= i {
+        return 65535;
+    }
+    low[i]
+}
+
+// The least of each one's circle, by the chains of labels.
+fn least_labels(n: usize, rep: &[u16; 4096], low: &[u16; 4096], label: &mut [u16])
+    requires { ⌜ (n ≤ 4096) × (n ≤ length (now label)) ⌝ }
+    ensures { λ _. ⌜ Lowered n (now (rep .entry)) (now (low .entry)) (now (label .entry)) n (now (label .exit)) ⌝ }
+{
+    let mut x: usize = 0;
+    while x < n {
+        label[x] = least_of(n, low, rep[x]);
+        x += 1;
+    }
+}
+
+// The label of each slot's circle, and the next member of it.
+pub fn circle_labels(
+    n: usize,
+    a: &[u16; 4096],
+    b: &[u16; 4096],
+    first: &[u16; 4096],
+    next: &[u16; 8192],
+    label: &mut [u16],
+    after: &mut [u16],
+)
+    requires { ⌜ Given n (now a) (now b) × (n ≤ length (now label)) × (n ≤ length (now after)) × Chained (argOf (now a) (now b)) (2 * n) n (now first) (now next) ⌝ }
+    ensures { λ _. ⌜ (now (label .exit) ≡ over (labelsOf (graphOf n (now (a .entry)) (now (b .entry)))) (now (label .entry))) × Kin n (now (label .exit)) (now (after .exit)) ⌝ }
+{
+    let mut order = [65535u16; 4096];
+    let mut queue = [0u16; 4096];
+    let mut stage = [0u16; 4096];
+    leaving_order(n, a, b, &mut order, &mut queue, &mut stage);
+    let mut rep = [65535u16; 4096];
+    let mut seen = [65535u16; 4096];
+    label_circles(
+        n,
+        a,
+        b,
+        first,
+        next,
+        &order,
+        &mut rep,
+        &mut seen,
+        &mut queue,
+    );
+    let mut low = [65535u16; 4096];
+    chain_members(n, &rep, &mut low, after);
+    least_labels(n, &rep, &low, label);
 }
