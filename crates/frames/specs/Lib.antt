@@ -3,3 +3,4 @@ pub mod Out
 pub mod Text
 pub mod Walk
 pub mod Written
+pub mod Read

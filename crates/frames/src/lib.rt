@@ -2,6 +2,7 @@
 mod kinds;
 mod out;
 mod plant;
+mod read;
 mod walk;
 mod write;
 
@@ -11,6 +12,7 @@ pub use out::put_refusal;
 pub use out::put_round;
 pub use out::put_set;
 pub use plant::write_tree;
+pub use read::take_frame;
 use refusal::Refusal;
 use sets::Argument;
 pub use walk::next_of;
@@ -92,4 +94,10 @@ pub enum Expected {
 pub enum Written {
     Length(usize),
     Refused(Refusal),
+}
+
+// What a frame of a table's text leads to: what is expected next, or why the reading stops, and the line.
+pub enum Taken {
+    Next(Expected),
+    Stopped { refusal: Refusal, line: u32 },
 }
