@@ -4,3 +4,4 @@ pub mod Text
 pub mod Walk
 pub mod Written
 pub mod Read
+pub mod Moved
