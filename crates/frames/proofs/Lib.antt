@@ -3,3 +3,4 @@ pub mod Order
 pub mod Shown
 pub mod Writing
 pub mod Taking
+pub mod Sofar

@@ -109,3 +109,31 @@ Awaits t (AtSymbol s) = s < 32
 Awaits t (AtProduction p) = (p < 64) × Symbols t
 Awaits t (AtEquation p q k) = (p < 64) × (Shaped t p × ((q ≤ childCount t p) × (k < 4)))
 Awaits t Ended = Unit {0}
+
+-- the header's and the symbols' frames are not refused
+pub record Top (t : List ℕ) : Type 0 where
+  pub header : refusalAt t table.header ≡ 0
+  pub symbols : (s : ℕ) → s < symbolCount t → refusalAt t (table.symbol s) ≡ 0
+
+-- nor are production p's and those of its equations
+pub record Part (t : List ℕ) (p : ℕ) : Type 0 where
+  pub production : refusalAt t (table.production p) ≡ 0
+  pub equations : (q k : ℕ) → q ≤ childCount t p → k < defined t p q → refusalAt t (table.equation p q k) ≡ 0
+
+-- nor are production p's and those of its equations before equation k of position q
+pub record Within (t : List ℕ) (p q k : ℕ) : Type 0 where
+  pub production : refusalAt t (table.production p) ≡ 0
+  pub positions : (j l : ℕ) → j < q → j ≤ childCount t p → l < defined t p j → refusalAt t (table.equation p j l) ≡ 0
+  pub sets : (l : ℕ) → l < k → l < defined t p q → refusalAt t (table.equation p q l) ≡ 0
+
+-- between two frames: the expected one is one of the table, and no frame before it is refused
+abbrev pub Sofar : List ℕ → Expected → Type 0
+Sofar t AtHeader = Unit {0}
+Sofar t (AtSymbol s) = (s < symbolCount t) × ((refusalAt t table.header ≡ 0) × ((i : ℕ) → i < s → refusalAt t (table.symbol i) ≡ 0))
+Sofar t (AtProduction p) = (p < productionCount t) × (Top t × ((i : ℕ) → i < p → Part t i))
+Sofar t (AtEquation p q k) = Has t p q k × (Top t × (((i : ℕ) → i < p → Part t i) × Within t p q k))
+Sofar t Ended = judgeTable t ≡ 0
+
+-- a frame that is taken leaves words of which that holds again; so what is read to its end is a sound table
+abbrev pub Goes : Type 0
+Goes = (t : List ℕ) (x : Expected) (f : Frame) (line : ℕ) (y : Expected) → Sofar t x → takenAt t x f line ≡ Next y → Sofar (wordsAfter t x f) y
