@@ -14,3 +14,4 @@ pub mod Cursors
 pub mod Taking
 pub mod Laying
 pub mod Ranking
+pub mod Listing

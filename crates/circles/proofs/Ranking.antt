@@ -71,7 +71,7 @@ pub keep-le : (p : ℕ → Bool) (ks : List ℕ) → length (keep p ks) ≤ leng
 keep-le p [] = omega (arith, ap length (keep-none p))
 keep-le p (k ∷ ks) = omega (arith, keep-le p ks, keep-length p k ks (p k) refl, bit-le (p k))
 
-pub heldBy : Graph → List ℕ → List ℕ → ℕ
+unfoldable pub heldBy : Graph → List ℕ → List ℕ → ℕ
 heldBy G labels tk = length (keep (λ x. member tk (labelAt labels x)) (slots G))
 
 pub held-le : (G : Graph) (labels tk : List ℕ) → heldBy G labels tk ≤ G .size
