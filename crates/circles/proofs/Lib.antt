@@ -15,3 +15,5 @@ pub mod Taking
 pub mod Laying
 pub mod Ranking
 pub mod Listing
+pub mod Sequence
+pub mod Alike

@@ -31,7 +31,7 @@ held-or : (t : Bool) → (t ≡ false → ⊥) → t ≡ true
 held-or true f = refl
 held-or false f = absurd (f refl)
 
-some-long : {x : ℕ} {l : List ℕ} → x ∈ l → 0 < length l
+pub some-long : {x : ℕ} {l : List ℕ} → x ∈ l → 0 < length l
 some-long (List·Memᴰ·head e) = omega arith
 some-long (List·Memᴰ·tail h) = omega arith
 
@@ -74,7 +74,7 @@ keep-full p ks x h m = go (p x) refl
     go true e = e
     go false e = absurd (omega (arith, h, all-pass ks, keep-lt p (λ y. true) ks x (λ y _. refl) m refl e))
 
-held-full : (G : Graph) (labels tk : List ℕ) → G .size ≤ heldBy G labels tk → (x : ℕ) → x < G .size → member tk (labelAt labels x) ≡ true
+pub held-full : (G : Graph) (labels tk : List ℕ) → G .size ≤ heldBy G labels tk → (x : ℕ) → x < G .size → member tk (labelAt labels x) ≡ true
 unfolding heldBy
 held-full G labels tk h x xl = keep-full (λ x. member tk (labelAt labels x)) (slots G) x (omega (arith, h, length-up 0 (G .size))) (of-slots x (G .size) xl)
 
@@ -109,7 +109,7 @@ module _ (G : Graph) (C : Closed G) where
       label-is G x (labelAt L y) (below x d) d (least-move t (least-label G y (below y e) e))
 
   -- what has a label below the size is declared
-  labelled : (x l : ℕ) → l < G .size → G .size ≤ 65535 → labelAt L x ≡ l → G .declared x ≡ true
+  pub labelled : (x l : ℕ) → l < G .size → G .size ≤ 65535 → labelAt L x ≡ l → G .declared x ≡ true
   labelled x l h few e = go (G .declared x) refl
     where
       go : (t : Bool) → G .declared x ≡ t → G .declared x ≡ true
@@ -202,7 +202,7 @@ module _ (G : Graph) (C : Closed G) where
 
     -- ---- every declared instance's circle is listed
 
-    listed : (k : ℕ) (tk : List ℕ) → G .size ≤ k + heldBy G L tk → (x : ℕ) → G .declared x ≡ true → (member tk (labelAt L x) ≡ true) ⊎ (labelAt L x ∈ ranking k G L tk)
+    pub listed : (k : ℕ) (tk : List ℕ) → G .size ≤ k + heldBy G L tk → (x : ℕ) → G .declared x ≡ true → (member tk (labelAt L x) ≡ true) ⊎ (labelAt L x ∈ ranking k G L tk)
     listed zero tk h x d = inl (held-full G L tk (omega arith) x (below x d))
     listed (suc k) tk h x d =
         ⊎-elim

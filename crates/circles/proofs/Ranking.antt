@@ -125,10 +125,10 @@ unfolding joined
 joined-snoc [] C = append-nil C
 joined-snoc (D ∷ R) C = ap (λ (u : List ℕ). D ++ u) (joined-snoc R C) ∙ sym (append-assoc D (joined R) C)
 
-joined-cons : (C : List ℕ) (R : List (List ℕ)) → length (joined (C ∷ R)) ≡ length C + length (joined R)
+pub joined-cons : (C : List ℕ) (R : List (List ℕ)) → length (joined (C ∷ R)) ≡ length C + length (joined R)
 joined-cons C R = unfold joined in length-append C (joined R)
 
-joined-none : joined [] ≡ []
+pub joined-none : joined [] ≡ []
 unfolding joined
 joined-none = refl
 
