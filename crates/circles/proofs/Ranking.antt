@@ -13,8 +13,8 @@ use lib.Dec.{eqb, ltb}
 use borrow.Author.Tests.{eq-eqb, ne-eqb, eqb-true, eqb-false, lt-ltb, le-ltb, ltb-true}
 use Rattle.circles.specs.Graph.{Graph, _∈_}
 use Rattle.circles.specs.Ranked.{member, allOf, keep, upFrom, slots, firstOf, labelAt, labelsOf, circleOf, settled, ready, takeable, ranking, rankedBy, ranked}
-use Rattle.circles.specs.Arrays.{given, graphOf, joined, endsFrom, over}
-use Rattle.circles.specs.Labels.{Given, Kin}
+use Rattle.circles.specs.Arrays.{Given, given, graphOf, joined, endsFrom, over}
+use Rattle.circles.specs.Labels.{Kin}
 use Rattle.circles.specs.Turns.{Settled, Free, In, Pulled, Cursor, Sure, Turn, membersFrom, Agrees, Listed}
 use Rattle.circles.proofs.Lists.{not-true-false, and-parts, and-of, or-parts, or-one, or-two, not-of, not-was, member-of, of-member, all-of, of-all, in-keep, of-keep, keep-same, keep-step, keep-here, keep-none, in-slots, of-slots, first-is, first-none, length-up, up-step}
 use Rattle.circles.proofs.Holding.{getD-any, in-given, of-given}
