@@ -14,3 +14,6 @@ pub mod Cursors
 pub mod Taking
 pub mod Laying
 pub mod Ranking
+pub mod Listing
+pub mod Sequence
+pub mod Alike

@@ -11,9 +11,9 @@ use lib.ListN.{length, getD, set, take, drop, length-set, take-append-drop}
 use lib.Seq.{getD-set-same, getD-set-other, getD-take, drop-set-lt, drop-drop, length-take-le, ext-getD}
 use Rattle.circles.specs.Graph.{Graph, LeastOf}
 use Rattle.circles.specs.Ranked.{labelsOf, labelAt}
-use Rattle.circles.specs.Arrays.{graphOf, over}
+use Rattle.circles.specs.Arrays.{Given, graphOf, over}
 use Rattle.circles.specs.Search.{Chained, Next, placeOf}
-use Rattle.circles.specs.Labels.{Given, Round, Reps, LowOf, Lowered, Kin}
+use Rattle.circles.specs.Labels.{Round, Reps, LowOf, Lowered, Kin}
 use Rattle.circles.proofs.Paths.{join}
 use Rattle.circles.proofs.Reach.{end-below}
 use Rattle.circles.proofs.Least.{label-is, label-off, labels-long, reached-declared}

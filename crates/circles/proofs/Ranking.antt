@@ -13,8 +13,8 @@ use lib.Dec.{eqb, ltb}
 use borrow.Author.Tests.{eq-eqb, ne-eqb, eqb-true, eqb-false, lt-ltb, le-ltb, ltb-true}
 use Rattle.circles.specs.Graph.{Graph, _∈_}
 use Rattle.circles.specs.Ranked.{member, allOf, keep, upFrom, slots, firstOf, labelAt, labelsOf, circleOf, settled, ready, takeable, ranking, rankedBy, ranked}
-use Rattle.circles.specs.Arrays.{given, graphOf, joined, endsFrom, over}
-use Rattle.circles.specs.Labels.{Given, Kin}
+use Rattle.circles.specs.Arrays.{Given, given, graphOf, joined, endsFrom, over}
+use Rattle.circles.specs.Labels.{Kin}
 use Rattle.circles.specs.Turns.{Settled, Free, In, Pulled, Cursor, Sure, Turn, membersFrom, Agrees, Listed}
 use Rattle.circles.proofs.Lists.{not-true-false, and-parts, and-of, or-parts, or-one, or-two, not-of, not-was, member-of, of-member, all-of, of-all, in-keep, of-keep, keep-same, keep-step, keep-here, keep-none, in-slots, of-slots, first-is, first-none, length-up, up-step}
 use Rattle.circles.proofs.Holding.{getD-any, in-given, of-given}
@@ -71,7 +71,7 @@ pub keep-le : (p : ℕ → Bool) (ks : List ℕ) → length (keep p ks) ≤ leng
 keep-le p [] = omega (arith, ap length (keep-none p))
 keep-le p (k ∷ ks) = omega (arith, keep-le p ks, keep-length p k ks (p k) refl, bit-le (p k))
 
-pub heldBy : Graph → List ℕ → List ℕ → ℕ
+unfoldable pub heldBy : Graph → List ℕ → List ℕ → ℕ
 heldBy G labels tk = length (keep (λ x. member tk (labelAt labels x)) (slots G))
 
 pub held-le : (G : Graph) (labels tk : List ℕ) → heldBy G labels tk ≤ G .size
@@ -125,10 +125,10 @@ unfolding joined
 joined-snoc [] C = append-nil C
 joined-snoc (D ∷ R) C = ap (λ (u : List ℕ). D ++ u) (joined-snoc R C) ∙ sym (append-assoc D (joined R) C)
 
-joined-cons : (C : List ℕ) (R : List (List ℕ)) → length (joined (C ∷ R)) ≡ length C + length (joined R)
+pub joined-cons : (C : List ℕ) (R : List (List ℕ)) → length (joined (C ∷ R)) ≡ length C + length (joined R)
 joined-cons C R = unfold joined in length-append C (joined R)
 
-joined-none : joined [] ≡ []
+pub joined-none : joined [] ≡ []
 unfolding joined
 joined-none = refl
 

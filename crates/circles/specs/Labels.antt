@@ -4,8 +4,7 @@ use mathlib.Core.Path.{_≡_}
 use mathlib.Core.List.{List}
 use mathlib.Core.Logic.{_⊎_}
 use lib.ListN.{getD, length, drop}
-use Rattle.circles.specs.Graph.{Path⁺, Closed}
-use Rattle.circles.specs.Arrays.{graphOf}
+use Rattle.circles.specs.Graph.{Path⁺}
 use Rattle.circles.specs.Search.{Arg, Next, placeOf}
 
 -- x and y get to each other by arguments
@@ -31,13 +30,6 @@ pub record Took (n : ℕ) (a b : List ℕ) (x : ℕ) (r r′ m′ q′ : List �
   pub room : length q′ ≡ 4096
   pub kept : (y : ℕ) → getD r y 0 < n → getD r′ y 0 < n
   pub here : x < n → (getD a x 0 ≡ 65534 → ⊥) → getD r′ x 0 < n
-
--- what is asked of the arguments: slots for all, and what a declared slot reads is declared
-pub record Given (n : ℕ) (a b : List ℕ) : Type 0 where
-  pub few : n ≤ 4096
-  pub long-a : n ≤ length a
-  pub long-b : n ≤ length b
-  pub closed : Closed (graphOf n a b)
 
 -- l is the least slot of the label r, or none where r is none
 pub record LowOf (n : ℕ) (low : List ℕ) (r l : ℕ) : Type 0 where

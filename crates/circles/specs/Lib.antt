@@ -5,3 +5,4 @@ pub mod Example
 pub mod Search
 pub mod Labels
 pub mod Turns
+pub mod Laws

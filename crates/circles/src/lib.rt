@@ -1,8 +1,7 @@
 // Circles and their ranks, over two argument arrays and nothing else.
 ghost use Prim.Native.Nat.{_+_, _≤_};
 ghost use lib.ListN.{length};
-ghost use Rattle.circles.specs.Arrays.{graphOf, Laid};
-ghost use Rattle.circles.specs.Labels.{Given};
+ghost use Rattle.circles.specs.Arrays.{Given, graphOf, Laid};
 
 mod labels;
 mod order;

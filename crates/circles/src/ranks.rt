@@ -5,9 +5,9 @@ ghost use lib.ListN.{getD, length, set};
 ghost use lib.Seq.{sets};
 ghost use mathlib.Core.List.{[], _++_};
 ghost use Rattle.circles.specs.Ranked.{ranking, ranked};
-ghost use Rattle.circles.specs.Arrays.{graphOf, over, Laid};
+ghost use Rattle.circles.specs.Arrays.{Given, graphOf, over, Laid};
 ghost use Rattle.circles.specs.Search.{Arg, Chained, argOf};
-ghost use Rattle.circles.specs.Labels.{Given, Kin};
+ghost use Rattle.circles.specs.Labels.{Kin};
 ghost use Rattle.circles.specs.Turns.{Says, Settled, Free, Advanced, In, Bits, Put, Pulled, Cursors, Moved, SureAt, Turn, Outset, membersFrom, Agrees, Listed};
 use crate::labels::wide;
 

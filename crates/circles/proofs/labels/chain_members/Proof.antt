@@ -1,3 +1,4 @@
+-- `chain_members` meets its contract: the chains of the slots from x on. Assumes nothing.
 use Rattle.circles.proofs.Chains.{Partly, partly-none, partly-more, partly-all, linked-first, linked-next}
 use Rattle.circles.specs.Search.{placeOf}
 use lib.ListN.{length, getD}
@@ -7,9 +8,6 @@ use borrow.Author.Needs.{needs}
 use native.Mathlib.Omega.{arith}
 use Rattle.circles.proofs.labels.chain_members.Statement.{statement}
 use Rattle.circles.proofs.labels.chain_members.Tie as tie
-use Rattle.circles.proofs.labels.chain_members.Reads as reads
-use Rattle.circles.proofs.labels.chain_members.Lts as lts
-use Rattle.circles.proofs.labels.link.Reads as link-reads
 
 abbrev Inv-loop : tie.InvT-loop
 Inv-loop n rep low₀ after₀ x₀ low after x = Partly (placeOf rep) n n low after x × (x ≤ n) × (length low ≡ length low₀) × (length after ≡ length after₀)
@@ -20,20 +18,8 @@ abbrev μ-loop : tie.MeasureT-loop
 loop-holds : tie.Need-loop-holds Inv-loop μ-loop
 loop-holds c = (partly-none (placeOf (c .before .before .args .rep .now)) (c .before .before .args .n) (c .before .before .args .n) (c .before .before .args .low .now) (c .before .before .args .after .now) (c .before .before .pre .0) (omega (arith, c .before .before .pre .0)) (c .before .before .pre .1) (c .before .before .pre .2), omega arith, refl, refl)
 
-sub-x : tie.Need-sub-x Inv-loop μ-loop
-sub-x c = omega arith
-
-mul-link : tie.Need-mul-link Inv-loop μ-loop
-mul-link c = omega arith
-
-element-copy-out-link : tie.Need-element-copy-out-link Inv-loop μ-loop
-element-copy-out-link c = omega arith
-
 link-requires : tie.Need-link-requires Inv-loop μ-loop
 link-requires c κs = let i = c .before .before .before .before .loop .inv in (i .0 .lenf, omega (arith, i .0 .lenn, i .1, c .before .before .before .loop-test .taken), omega (arith, c .before .before .before .before .before .before .before .pre .0, i .1))
-
-loop-less : tie.Need-loop-less Inv-loop μ-loop
-loop-less c = omega arith
 
 loop-again : tie.Need-loop-again Inv-loop μ-loop
 loop-again c = let s = c .before .before .before .before .before .before .before .before .before .before .before .before .args in let l = c .before .before .before .before .before .before .before .before .before .loop in
@@ -55,11 +41,11 @@ chain-members-spec =
     Inv-loop
     μ-loop
     loop-holds
-    sub-x
-    mul-link
-    element-copy-out-link
+    (λ c. omega arith)
+    (λ c. omega arith)
+    (λ c. omega arith)
     link-requires
-    loop-less
+    (λ c. omega arith)
     loop-again
     same-length
     same-length-2

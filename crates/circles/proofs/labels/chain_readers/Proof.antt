@@ -1,3 +1,4 @@
+-- `chain_readers` meets its contract: the chains of the places from 2 x on, two links a turn. Assumes nothing.
 use Rattle.circles.proofs.Chains.{Partly, partly-none, partly-more, partly-all, arg-even, arg-odd, linked-first, linked-next}
 use Rattle.circles.specs.Search.{argOf}
 use lib.ListN.{length, getD}
@@ -7,9 +8,6 @@ use borrow.Author.Needs.{needs}
 use native.Mathlib.Omega.{arith}
 use Rattle.circles.proofs.labels.chain_readers.Statement.{statement}
 use Rattle.circles.proofs.labels.chain_readers.Tie as tie
-use Rattle.circles.proofs.labels.chain_readers.Reads as reads
-use Rattle.circles.proofs.labels.chain_readers.Lts as lts
-use Rattle.circles.proofs.labels.link.Reads as link-reads
 
 abbrev Inv-loop : tie.InvT-loop
 Inv-loop n a b first₀ next₀ x₀ first next x = Partly (argOf a b) (2 * n) n first next (2 * x) × (x ≤ n) × (length first ≡ length first₀) × (length next ≡ length next₀)
@@ -20,32 +18,8 @@ abbrev μ-loop : tie.MeasureT-loop
 loop-holds : tie.Need-loop-holds Inv-loop μ-loop
 loop-holds c = (partly-none (argOf (c .before .before .args .a .now) (c .before .before .args .b .now)) (2 * c .before .before .args .n) (c .before .before .args .n) (c .before .before .args .first .now) (c .before .before .args .next .now) (c .before .before .pre .0) (omega (arith, c .before .before .pre .0)) (c .before .before .pre .1) (c .before .before .pre .2), omega arith, refl, refl)
 
-sub-x : tie.Need-sub-x Inv-loop μ-loop
-sub-x c = omega arith
-
-mul-link : tie.Need-mul-link Inv-loop μ-loop
-mul-link c = omega arith
-
-element-copy-out-link : tie.Need-element-copy-out-link Inv-loop μ-loop
-element-copy-out-link c = omega arith
-
-mul-link-2 : tie.Need-mul-link-2 Inv-loop μ-loop
-mul-link-2 c = omega arith
-
-add-link : tie.Need-add-link Inv-loop μ-loop
-add-link c = omega arith
-
 link-requires : tie.Need-link-requires Inv-loop μ-loop
 link-requires c κs = let i = c .before .before .before .before .loop .inv in (i .0 .lenf, omega (arith, i .0 .lenn, i .1, c .before .before .before .loop-test .taken), omega (arith, c .before .before .before .before .before .before .before .pre .0, i .1, c .before .before .before .loop-test .taken))
-
-mul-link-3 : tie.Need-mul-link-3 Inv-loop μ-loop
-mul-link-3 c = omega arith
-
-element-copy-out-link-2 : tie.Need-element-copy-out-link-2 Inv-loop μ-loop
-element-copy-out-link-2 c = omega arith
-
-mul-link-4 : tie.Need-mul-link-4 Inv-loop μ-loop
-mul-link-4 c = omega arith
 
 -- between the two links
 half : (c : tie.After-link Inv-loop μ-loop) → (
@@ -61,9 +35,6 @@ half c =
 
 link-requires-2 : tie.Need-link-requires-2 Inv-loop μ-loop
 link-requires-2 c κs = let p = half (c .before .before .before .before .before .before .before) in (p .lenf, omega (arith, p .lenn, c .before .before .before .before .before .before .before .before .before .before .before .before .loop .inv .1, c .before .before .before .before .before .before .before .before .before .before .before .loop-test .taken), omega (arith, c .before .before .before .before .before .before .before .before .before .before .before .before .before .before .before .pre .0, c .before .before .before .before .before .before .before .before .before .before .before .before .loop .inv .1))
-
-loop-less : tie.Need-loop-less Inv-loop μ-loop
-loop-less c = omega arith
 
 loop-again : tie.Need-loop-again Inv-loop μ-loop
 loop-again c = let s = c .before .before .before .before .before .before .before .before .before .before .before .before .before .before .before .before .before .before .before .before .args in let l = c .before .before .before .before .before .before .before .before .before .before .before .before .before .before .before .before .before .loop in let d = c .before .before .before .before .before .before .before .before .before .before .before .before in
@@ -85,17 +56,17 @@ chain-readers-spec =
     Inv-loop
     μ-loop
     loop-holds
-    sub-x
-    mul-link
-    element-copy-out-link
-    mul-link-2
-    add-link
+    (λ c. omega arith)
+    (λ c. omega arith)
+    (λ c. omega arith)
+    (λ c. omega arith)
+    (λ c. omega arith)
     link-requires
-    mul-link-3
-    element-copy-out-link-2
-    mul-link-4
+    (λ c. omega arith)
+    (λ c. omega arith)
+    (λ c. omega arith)
     link-requires-2
-    loop-less
+    (λ c. omega arith)
     loop-again
     same-length
     same-length-2

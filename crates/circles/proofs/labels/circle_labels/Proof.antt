@@ -1,3 +1,4 @@
+-- `circle_labels` meets its contract: labels by a member, then by the least. Assumes nothing.
 use Rattle.circles.proofs.Lowering.{labels-are, kin}
 use Rattle.circles.proofs.Chains.{blank-new}
 use lib.ListN.{length, getD, replicate, length-replicate, getD-replicate}
@@ -7,12 +8,6 @@ use borrow.Author.Needs.{needs}
 use native.Mathlib.Omega.{arith}
 use Rattle.circles.proofs.labels.circle_labels.Statement.{statement}
 use Rattle.circles.proofs.labels.circle_labels.Tie as tie
-use Rattle.circles.proofs.labels.circle_labels.Reads as reads
-use Rattle.circles.proofs.labels.circle_labels.Lts as lts
-use Rattle.circles.proofs.labels.chain_members.Reads as chain-members-reads
-use Rattle.circles.proofs.labels.label_circles.Reads as label-circles-reads
-use Rattle.circles.proofs.labels.least_labels.Reads as least-labels-reads
-use Rattle.circles.proofs.order.leaving_order.Reads as leaving-order-reads
 
 leaving-order-requires : tie.Need-leaving-order-requires
 leaving-order-requires c κs = (c .before .before .before .before .before .pre .0 .few, length-replicate {A = ℕ} 4096 0)
@@ -20,20 +15,11 @@ leaving-order-requires c κs = (c .before .before .before .before .before .pre .
 label-circles-requires : tie.Need-label-circles-requires
 label-circles-requires c κs = ((c .before .before .before .before .before .before .before .before .before .before .pre .0 .few, c .before .before .before .before .before .before .before .before .before .before .pre .3), (blank-new (c .before .before .before .before .before .before .before .before .before .before .args .n) (c .before .before .before .before .before .before .before .before .before .before .pre .0 .few), blank-new (c .before .before .before .before .before .before .before .before .before .before .args .n) (c .before .before .before .before .before .before .before .before .before .before .pre .0 .few), c .before .before .before .before .leaving-order .ensures))
 
-slice-aggregate-chain-members : tie.Need-slice-aggregate-chain-members
-slice-aggregate-chain-members c = omega arith
-
 chain-members-requires : tie.Need-chain-members-requires
 chain-members-requires c κs = (c .before .before .before .before .before .before .before .before .before .before .before .before .before .before .pre .0 .few, blank-new (c .before .before .before .before .before .before .before .before .before .before .before .before .before .before .args .n) (c .before .before .before .before .before .before .before .before .before .before .before .before .before .before .pre .0 .few), c .before .before .before .before .before .before .before .before .before .before .before .before .before .before .pre .2)
 
 least-labels-requires : tie.Need-least-labels-requires
 least-labels-requires c κs = (c .before .before .before .before .before .before .before .before .before .before .before .before .before .before .before .before .before .before .before .before .before .pre .0 .few, c .before .before .before .before .before .before .before .before .before .before .before .before .before .before .before .before .before .before .before .before .before .pre .1)
-
-same-length : tie.Need-same-length
-same-length c = search needs
-
-same-length-2 : tie.Need-same-length-2
-same-length-2 c = search needs
 
 returns : tie.Need-returns
 returns c = let s = c .before .before .before .before .before .before .before .before .before .before .before .before .before .before .before .before .before .before .before .before .before .before .before .before in let g = s .args in let r = c .before .before .before .before .before .before .before .before .before .before .before .before .before .label-circles in let m = c .before .before .before .before .before .before .before .before .before .chain-members in let d = c .before .before .least-labels in (
@@ -47,9 +33,9 @@ circle-labels-spec =
     (tie.spec
     leaving-order-requires
     label-circles-requires
-    slice-aggregate-chain-members
+    (λ c. omega arith)
     chain-members-requires
     least-labels-requires
-    same-length
-    same-length-2
+    (λ c. search needs)
+    (λ c. search needs)
     returns)

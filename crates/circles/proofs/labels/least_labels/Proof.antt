@@ -1,3 +1,4 @@
+-- `least_labels` meets its contract: the first x have their least. Assumes nothing.
 use Rattle.circles.proofs.Lowering.{lowered-none, lowered-more}
 use Rattle.circles.specs.Labels.{Lowered}
 use lib.ListN.{length}
@@ -7,9 +8,6 @@ use borrow.Author.Needs.{needs}
 use native.Mathlib.Omega.{arith}
 use Rattle.circles.proofs.labels.least_labels.Statement.{statement}
 use Rattle.circles.proofs.labels.least_labels.Tie as tie
-use Rattle.circles.proofs.labels.least_labels.Reads as reads
-use Rattle.circles.proofs.labels.least_labels.Lts as lts
-use Rattle.circles.proofs.labels.least_of.Reads as least-of-reads
 
 abbrev Inv-loop : tie.InvT-loop
 Inv-loop n rep low label₀ x₀ label x = Lowered n rep low label₀ x label × (x ≤ n)
@@ -20,29 +18,14 @@ abbrev μ-loop : tie.MeasureT-loop
 loop-holds : tie.Need-loop-holds Inv-loop μ-loop
 loop-holds c = (lowered-none (c .before .args .n) (c .before .args .rep .now) (c .before .args .low .now) (c .before .args .label .now), omega arith)
 
-mul-least-of : tie.Need-mul-least-of Inv-loop μ-loop
-mul-least-of c = omega arith
-
-element-copy-out-least-of : tie.Need-element-copy-out-least-of Inv-loop μ-loop
-element-copy-out-least-of c = omega arith
-
 least-of-requires : tie.Need-least-of-requires Inv-loop μ-loop
 least-of-requires c κs = c .before .before .before .before .pre .0
-
-mul-label : tie.Need-mul-label Inv-loop μ-loop
-mul-label c = omega arith
 
 long : (c : tie.In-loop Inv-loop μ-loop) → c .before .loop .x < length (c .before .loop .label)
 long c = omega (arith, c .before .loop .inv .0 .long, c .before .before .before .pre .1, c .loop-test .taken)
 
 slice-write-label : tie.Need-slice-write-label Inv-loop μ-loop
 slice-write-label c = long (c .before .before)
-
-add-x : tie.Need-add-x Inv-loop μ-loop
-add-x c = omega arith
-
-loop-less : tie.Need-loop-less Inv-loop μ-loop
-loop-less c = omega arith
 
 loop-again : tie.Need-loop-again Inv-loop μ-loop
 loop-again c = let g = c .before .before .before .before .before .args in let l = c .before .before .before .loop in (lowered-more (g .n) (g .rep .now) (g .low .now) (g .label .now) (l .label) (l .x) (c .least-of .result) (long (c .before .before)) (c .least-of .ensures) (l .inv .0), omega (arith, c .before .before .loop-test .taken))
@@ -60,13 +43,13 @@ least-labels-spec =
     Inv-loop
     μ-loop
     loop-holds
-    mul-least-of
-    element-copy-out-least-of
+    (λ c. omega arith)
+    (λ c. omega arith)
     least-of-requires
-    mul-label
+    (λ c. omega arith)
     slice-write-label
-    add-x
-    loop-less
+    (λ c. omega arith)
+    (λ c. omega arith)
     loop-again
     same-length
     returns)

@@ -1,3 +1,4 @@
+-- `link` meets its contract: the test tells whether y is a slot. Assumes nothing.
 use Rattle.circles.specs.Search.{off, on, Linked}
 use lib.ListN.{getD, set}
 use Prim.Native.Nat.{ℕ}
@@ -6,39 +7,6 @@ use mathlib.Core.Path.{_≡_, refl, sym, subst}
 use borrow.Author.Needs.{needs}
 use Rattle.circles.proofs.labels.link.Statement.{statement}
 use Rattle.circles.proofs.labels.link.Tie as tie
-use Rattle.circles.proofs.labels.link.Reads as reads
-use Rattle.circles.proofs.labels.link.Lts as lts
-use Rattle.circles.proofs.labels.wide.Reads as wide-reads
-
-wide-requires : tie.Need-wide-requires
-wide-requires c κs = search needs
-
-mul-next : tie.Need-mul-next
-mul-next c = search needs
-
-slice-read-next : tie.Need-slice-read-next
-slice-read-next c = search needs
-
-mul-next-2 : tie.Need-mul-next-2
-mul-next-2 c = search needs
-
-slice-write-next : tie.Need-slice-write-next
-slice-write-next c = search needs
-
-cast-first : tie.Need-cast-first
-cast-first c = search needs
-
-mul-first : tie.Need-mul-first
-mul-first c = search needs
-
-slice-write-first : tie.Need-slice-write-first
-slice-write-first c = search needs
-
-same-length : tie.Need-same-length
-same-length c = search needs
-
-same-length-2 : tie.Need-same-length-2
-same-length-2 c = search needs
 
 returns : tie.Need-returns
 returns c = let s = c .before .before .before .before .before .args in
@@ -51,15 +19,15 @@ pub link-spec : {M : Type 1} → statement M
 link-spec =
     tie.close
     (tie.spec
-    wide-requires
-    mul-next
-    slice-read-next
-    mul-next-2
-    slice-write-next
-    cast-first
-    mul-first
-    slice-write-first
-    same-length
-    same-length-2
+    (λ c κs. search needs)
+    (λ c. search needs)
+    (λ c. search needs)
+    (λ c. search needs)
+    (λ c. search needs)
+    (λ c. search needs)
+    (λ c. search needs)
+    (λ c. search needs)
+    (λ c. search needs)
+    (λ c. search needs)
     returns
     returns-2)

@@ -1,3 +1,4 @@
+-- `look` meets its contract: the tests tell whether y is queued, and the marks leave room for it. Assumes nothing.
 use Rattle.circles.proofs.Stamps.{stamped-lt}
 use Rattle.circles.specs.Search.{stamped, skipped, added}
 use lib.ListN.{length}
@@ -7,32 +8,12 @@ use native.Mathlib.Omega.{arith}
 use borrow.Author.Needs.{needs}
 use Rattle.circles.proofs.labels.look.Statement.{statement}
 use Rattle.circles.proofs.labels.look.Tie as tie
-use Rattle.circles.proofs.labels.look.Reads as reads
-use Rattle.circles.proofs.labels.look.Lts as lts
-
-mul-if1 : tie.Need-mul-if1
-mul-if1 c = search needs
-
-element-copy-out-if1 : tie.Need-element-copy-out-if1
-element-copy-out-if1 c = search needs
 
 returns : tie.Need-returns
 returns c = skipped (λ _ e. absurd (c .if1 .taken e)) refl refl refl
 
-mul-if2 : tie.Need-mul-if2
-mul-if2 c = search needs
-
-element-copy-out-if2 : tie.Need-element-copy-out-if2
-element-copy-out-if2 c = search needs
-
 returns-2 : tie.Need-returns-2
 returns-2 c = skipped (λ _ _. c .if2 .taken) refl refl refl
-
-mul-mark : tie.Need-mul-mark
-mul-mark c = search needs
-
-element-write-mark : tie.Need-element-write-mark
-element-write-mark c = search needs
 
 -- there is room
 room : (c : tie.Else2) → c .before .before .before .before .args .tail < 4096
@@ -57,14 +38,14 @@ pub look-spec : {M : Type 1} → statement M
 look-spec =
     tie.close
     (tie.spec
-    mul-if1
-    element-copy-out-if1
+    (λ c. search needs)
+    (λ c. search needs)
     returns
-    mul-if2
-    element-copy-out-if2
+    (λ c. search needs)
+    (λ c. search needs)
     returns-2
-    mul-mark
-    element-write-mark
+    (λ c. search needs)
+    (λ c. search needs)
     mul-queue
     element-write-queue
     add-result

@@ -1,3 +1,4 @@
+-- `mark_reads` meets its contract: the search's front, with two looks a turn. Assumes nothing.
 use Prim.Native.Nat.{ℕ, _+_, _-_, _≤_, _<_}
 use native.Mathlib.Omega.{arith}
 use native.Mathlib.Nat.{le-refl, le-trans, le-of-lt}
@@ -34,9 +35,6 @@ mul-mark c = omega (arith, c .fits .x .fits)
 element-write-mark : tie.Need-element-write-mark Inv-loop μ-loop
 element-write-mark c = omega (arith, c .pre .0, c .pre .1 .small)
 
-element-write-queue : tie.Need-element-write-queue Inv-loop μ-loop
-element-write-queue c = search needs
-
 loop-holds : tie.Need-loop-holds Inv-loop μ-loop
 loop-holds c = (
   started (c .args .n) (c .pre .0) (Arg (c .args .n) (c .args .a .now) (c .args .b .now)) (c .args .okay .now) (c .args .k) (c .args .x) (c .args .mark .now) (c .args .queue .now) (c .pre .2) (c .pre .3) (c .pre .1),
@@ -52,9 +50,6 @@ mul-wide c = omega (arith, head-small c)
 
 element-copy-out-wide : tie.Need-element-copy-out-wide Inv-loop μ-loop
 element-copy-out-wide c = head-small c
-
-wide-requires : tie.Need-wide-requires Inv-loop μ-loop
-wide-requires c κs = tt
 
 v-small : (c : tie.After-wide Inv-loop μ-loop) → c .wide .result < lp c .before .args .n
 v-small c = subst (λ (u : ℕ). u < lp c .before .args .n) (sym (c .wide .ensures)) (lp c .loop .inv .0 .queued (lp c .loop .head) (c .before .before .loop-test .taken) .0)
@@ -149,11 +144,11 @@ mark-reads-spec =
     μ-loop
     mul-mark
     element-write-mark
-    element-write-queue
+    (λ c. search needs)
     loop-holds
     mul-wide
     element-copy-out-wide
-    wide-requires
+    (λ c κs. tt)
     mul-visit
     element-copy-out-visit
     visit-requires

@@ -1,3 +1,4 @@
+-- `sweep` meets its contract: the looks along the chain of readers. Assumes nothing.
 use Rattle.circles.proofs.Sweeps.{Along, Kept, visited-kept, along-start, along-more}
 use Rattle.circles.proofs.Chains.{arg-of, at-readers}
 use Rattle.circles.specs.Search.{stamped, Looks, begin, look, Swept, Next, Room, Back, Arg, argOf}
@@ -7,25 +8,12 @@ use Prim.Native.Nat.{ℕ, _+_, _*_, _/_, _-_, _≤_, _<_}
 use native.Mathlib.Omega.{arith}
 use Rattle.circles.proofs.labels.sweep.Statement.{statement}
 use Rattle.circles.proofs.labels.sweep.Tie as tie
-use Rattle.circles.proofs.labels.sweep.Reads as reads
-use Rattle.circles.proofs.labels.sweep.Lts as lts
-use Rattle.circles.proofs.labels.look.Reads as look-reads
-use Rattle.circles.proofs.labels.wide.Reads as wide-reads
 
 abbrev Inv-loop : tie.InvT-loop
 Inv-loop n a b first next v x okay k mark₀ queue₀ tail t₀ e₀ mark queue t e = Looks n (Back (Arg n a b) v) x okay k mark₀ queue₀ tail mark queue t × Along n a b v x okay k mark e × Room x mark queue t
 
 abbrev μ-loop : tie.MeasureT-loop
 μ-loop n a b first next v x okay k mark₀ queue₀ tail t₀ e₀ mark queue t e = 2 * n - e
-
-mul-wide : tie.Need-mul-wide Inv-loop μ-loop
-mul-wide c = omega arith
-
-element-copy-out-wide : tie.Need-element-copy-out-wide Inv-loop μ-loop
-element-copy-out-wide c = omega arith
-
-wide-requires : tie.Need-wide-requires Inv-loop μ-loop
-wide-requires c κs = tt
 
 loop-holds : tie.Need-loop-holds Inv-loop μ-loop
 loop-holds c =
@@ -35,23 +23,8 @@ loop-holds c =
       s .pre .3,
     )
 
-mul-loop : tie.Need-mul-loop Inv-loop μ-loop
-mul-loop c = omega arith
-
-cast-look : tie.Need-cast-look Inv-loop μ-loop
-cast-look c = omega arith
-
 look-requires : tie.Need-look-requires Inv-loop μ-loop
 look-requires c κs = (omega (arith, c .before .before .loop-test .taken), c .before .before .before .before .before .before .pre .0, c .before .before .before .loop .inv .2)
-
-mul-wide-2 : tie.Need-mul-wide-2 Inv-loop μ-loop
-mul-wide-2 c = omega arith
-
-element-copy-out-wide-2 : tie.Need-element-copy-out-wide-2 Inv-loop μ-loop
-element-copy-out-wide-2 c = omega arith
-
-wide-requires-2 : tie.Need-wide-requires-2 Inv-loop μ-loop
-wide-requires-2 c κs = tt
 
 -- the look's effect
 kept : (c : tie.After-look Inv-loop μ-loop) → (
@@ -103,16 +76,16 @@ sweep-spec =
     (tie.spec
     Inv-loop
     μ-loop
-    mul-wide
-    element-copy-out-wide
-    wide-requires
+    (λ c. omega arith)
+    (λ c. omega arith)
+    (λ c κs. tt)
     loop-holds
-    mul-loop
-    cast-look
+    (λ c. omega arith)
+    (λ c. omega arith)
     look-requires
-    mul-wide-2
-    element-copy-out-wide-2
-    wide-requires-2
+    (λ c. omega arith)
+    (λ c. omega arith)
+    (λ c κs. tt)
     loop-less
     loop-again
     returns)

@@ -1,3 +1,4 @@
+-- `take_circle` meets its contract: the circle of a seed by two searches, the second spared where the first finds the seed alone. Assumes nothing.
 use lib.ListN.{set}
 use Rattle.circles.proofs.Rounds.{clean-marks, clean-reps, found-lone, took}
 use Prim.Native.Nat.{ℕ, _<_}
@@ -5,20 +6,10 @@ use mathlib.Core.Path.{_≡_, refl, sym, ap, subst, _∙_}
 use borrow.Author.Needs.{needs}
 use Rattle.circles.proofs.labels.take_circle.Statement.{statement}
 use Rattle.circles.proofs.labels.take_circle.Tie as tie
-use Rattle.circles.proofs.labels.take_circle.Reads as reads
-use Rattle.circles.proofs.labels.take_circle.Lts as lts
-use Rattle.circles.proofs.labels.mark_readers.Reads as mark-readers-reads
-use Rattle.circles.proofs.labels.mark_reads.Reads as mark-reads-reads
 
 mark-readers-requires : tie.Need-mark-readers-requires
 mark-readers-requires c κs = let s = c .before .before .before in let g = s .args in let p = s .pre in
     (p .0 .0, clean-marks (g .n) (p .0 .0) (g .a .now) (g .b .now) (g .x) (g .rep .now) (p .1 .0 .0) (p .1 .1 .0) (p .1 .1 .1) (g .seen .now) (p .1 .0 .1), p .1 .0 .1 .long, p .1 .0 .2, p .0 .1)
-
-mul-rep : tie.Need-mul-rep
-mul-rep c = search needs
-
-element-write-rep : tie.Need-element-write-rep
-element-write-rep c = search needs
 
 returns : tie.Need-returns
 returns c = let s = c .before .before .before .before .before in let g = s .args in let p = s .pre in let m = c .before .mark-readers in
@@ -39,8 +30,8 @@ take-circle-spec =
     tie.close
     (tie.spec
     mark-readers-requires
-    mul-rep
-    element-write-rep
+    (λ c. search needs)
+    (λ c. search needs)
     returns
     mark-reads-requires
     returns-2)

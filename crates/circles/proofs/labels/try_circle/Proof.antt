@@ -1,3 +1,4 @@
+-- `try_circle` meets its contract: the tests tell whether there is a circle to label. Assumes nothing.
 use mathlib.Core.Logic.{⊎-elim}
 use native.Mathlib.Omega.{arith}
 use Prim.Native.Nat.{ℕ, _<_}
@@ -5,29 +6,14 @@ use mathlib.Core.Path.{_≡_, refl, sym, ap, subst, _∙_}
 use borrow.Author.Needs.{needs}
 use Rattle.circles.proofs.labels.try_circle.Statement.{statement}
 use Rattle.circles.proofs.labels.try_circle.Tie as tie
-use Rattle.circles.proofs.labels.try_circle.Reads as reads
-use Rattle.circles.proofs.labels.try_circle.Lts as lts
-use Rattle.circles.proofs.labels.take_circle.Reads as take-circle-reads
 
 returns : tie.Need-returns
 returns c = let p = c .before .pre in
     record { reps = p .1 .0; stale = p .1 .1; room = p .1 .2; kept = λ y h. h; here = λ h _. absurd (omega (arith, h, c .if1 .taken)) }
 
-mul-if2 : tie.Need-mul-if2
-mul-if2 c = search needs
-
-element-copy-out-if2 : tie.Need-element-copy-out-if2
-element-copy-out-if2 c = search needs
-
 returns-2 : tie.Need-returns-2
 returns-2 c = let p = c .before .before .before .pre in
     record { reps = p .1 .0; stale = p .1 .1; room = p .1 .2; kept = λ y h. h; here = λ _ h. absurd (h (c .if2 .taken)) }
-
-mul-if3 : tie.Need-mul-if3
-mul-if3 c = search needs
-
-element-copy-out-if3 : tie.Need-element-copy-out-if3
-element-copy-out-if3 c = search needs
 
 returns-3 : tie.Need-returns-3
 returns-3 c = let s = c .before .before .before .before .before in let p = s .pre in
@@ -44,11 +30,11 @@ try-circle-spec =
     tie.close
     (tie.spec
     returns
-    mul-if2
-    element-copy-out-if2
+    (λ c. search needs)
+    (λ c. search needs)
     returns-2
-    mul-if3
-    element-copy-out-if3
+    (λ c. search needs)
+    (λ c. search needs)
     returns-3
     take-circle-requires
     returns-4)

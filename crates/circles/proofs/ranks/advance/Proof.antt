@@ -1,3 +1,4 @@
+-- `advance` meets its contract: all members passed are free. Assumes nothing.
 use Rattle.circles.proofs.Cursors.{Going, onward, going-on}
 use Rattle.circles.specs.Turns.{Free}
 use borrow.Author.Tests.{not-true, not-false}
@@ -7,10 +8,6 @@ use Prim.Native.Nat.{ℕ, _+_, _-_, _≤_, _<_}
 use native.Mathlib.Omega.{arith}
 use Rattle.circles.proofs.ranks.advance.Statement.{statement}
 use Rattle.circles.proofs.ranks.advance.Tie as tie
-use Rattle.circles.proofs.ranks.advance.Reads as reads
-use Rattle.circles.proofs.ranks.advance.Lts as lts
-use Rattle.circles.proofs.labels.wide.Reads as wide-reads
-use Rattle.circles.proofs.ranks.free.Reads as free-reads
 
 abbrev Inv-loop : tie.InvT-loop
 Inv-loop n a b label after taken l x m e₀ e = Going n a b label taken after l x e
@@ -20,12 +17,6 @@ abbrev μ-loop : tie.MeasureT-loop
 
 loop-holds : tie.Need-loop-holds Inv-loop μ-loop
 loop-holds c = record { from = omega arith; past = λ z h₁ h₂ h₃ h₄. absurd (omega arith); at = c .before .pre .2 }
-
-cast-m : tie.Need-cast-m Inv-loop μ-loop
-cast-m c = omega arith
-
-wide-requires : tie.Need-wide-requires Inv-loop μ-loop
-wide-requires c κs = tt
 
 free-requires : tie.Need-free-requires Inv-loop μ-loop
 free-requires c κs = (c .before .before .before .before .pre .0 .few, c .before .before .before .before .pre .0 .long, omega (arith, c .wide .ensures, c .before .loop-test .taken))
@@ -37,9 +28,6 @@ returns c = let f = c .before in let l = c .before .before .before .before in le
       past = l .loop .inv .past;
       stop = λ h. (l .loop .inv .at h, subst (λ (u : ℕ). Free (g .n) (g .a .now) (g .b .now) (g .label .now) (g .taken .now) (g .l) u → ⊥) (c .before .before .wide .ensures) (f .free .ensures .if-false (not-true (f .free .result) (c .if1 .taken))));
     }
-
-wide-requires-2 : tie.Need-wide-requires-2 Inv-loop μ-loop
-wide-requires-2 c κs = tt
 
 mul-e : tie.Need-mul-e Inv-loop μ-loop
 mul-e c = omega (arith, c .wide2 .ensures, c .before .before .before .before .loop-test .taken, c .before .before .before .before .before .before .before .pre .0 .few)
@@ -67,12 +55,12 @@ advance-spec =
     (tie.spec
     Inv-loop
     μ-loop
-    cast-m
+    (λ c. omega arith)
     loop-holds
-    wide-requires
+    (λ c κs. tt)
     free-requires
     returns
-    wide-requires-2
+    (λ c κs. tt)
     mul-e
     element-copy-out-e
     loop-less

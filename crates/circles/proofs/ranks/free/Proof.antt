@@ -1,29 +1,9 @@
+-- `free` meets its contract: both arguments are asked. Assumes nothing.
 use mathlib.Core.Bool.{Bool, true, false, true≢false, false≢true}
 use mathlib.Core.Path.{_≡_, refl}
 use borrow.Author.Needs.{needs}
 use Rattle.circles.proofs.ranks.free.Statement.{statement}
 use Rattle.circles.proofs.ranks.free.Tie as tie
-use Rattle.circles.proofs.ranks.free.Reads as reads
-use Rattle.circles.proofs.ranks.free.Lts as lts
-use Rattle.circles.proofs.ranks.settled.Reads as settled-reads
-
-mul-settled : tie.Need-mul-settled
-mul-settled c = search needs
-
-element-copy-out-settled : tie.Need-element-copy-out-settled
-element-copy-out-settled c = search needs
-
-settled-requires : tie.Need-settled-requires
-settled-requires c κs = search needs
-
-mul-settled-2 : tie.Need-mul-settled-2
-mul-settled-2 c = search needs
-
-element-copy-out-settled-2 : tie.Need-element-copy-out-settled-2
-element-copy-out-settled-2 c = search needs
-
-settled-requires-2 : tie.Need-settled-requires-2
-settled-requires-2 c κs = search needs
 
 returns : tie.Need-returns
 returns c = record {
@@ -38,11 +18,11 @@ pub free-spec : {M : Type 1} → statement M
 free-spec =
     tie.close
     (tie.spec
-    mul-settled
-    element-copy-out-settled
-    settled-requires
-    mul-settled-2
-    element-copy-out-settled-2
-    settled-requires-2
+    (λ c. search needs)
+    (λ c. search needs)
+    (λ c κs. search needs)
+    (λ c. search needs)
+    (λ c. search needs)
+    (λ c κs. search needs)
     returns
     returns-2)

@@ -1,3 +1,4 @@
+-- `lay_circle` meets its contract: what is laid and what is left are the circle. Assumes nothing.
 use Rattle.circles.proofs.Laying.{Laying, laying-start, laying-room, laying-more, laying-end}
 use Rattle.circles.specs.Turns.{membersFrom}
 use Rattle.circles.specs.Search.{Next, placeOf}
@@ -8,9 +9,6 @@ use borrow.Author.Needs.{needs}
 use native.Mathlib.Omega.{arith}
 use Rattle.circles.proofs.ranks.lay_circle.Statement.{statement}
 use Rattle.circles.proofs.ranks.lay_circle.Tie as tie
-use Rattle.circles.proofs.ranks.lay_circle.Reads as reads
-use Rattle.circles.proofs.ranks.lay_circle.Lts as lts
-use Rattle.circles.proofs.labels.wide.Reads as wide-reads
 
 abbrev Inv-loop : tie.InvT-loop
 Inv-loop n label after l members₀ pos m y₀ p₀ members y p = Laying n label l members₀ pos members y p
@@ -31,17 +29,11 @@ room c =
     let g = s .args in
     laying-room (g .n) (g .label .now) (g .l) (g .members .now) (g .pos) (l .members) (l .y) (l .p) (l .inv) (s .pre .3) (c .loop-test .taken)
 
-mul-members : tie.Need-mul-members Inv-loop μ-loop
-mul-members c = omega arith
-
 slice-write-members : tie.Need-slice-write-members Inv-loop μ-loop
 slice-write-members c = room c
 
 add-p : tie.Need-add-p Inv-loop μ-loop
 add-p c = omega (arith, room c, c .before .loop .inv .long)
-
-wide-requires : tie.Need-wide-requires Inv-loop μ-loop
-wide-requires c κs = tt
 
 mul-y : tie.Need-mul-y Inv-loop μ-loop
 mul-y c = omega (arith, c .wide .ensures, c .before .loop-test .taken, c .before .before .before .before .before .pre .0 .few)
@@ -85,10 +77,10 @@ lay-circle-spec =
     μ-loop
     cast-m
     loop-holds
-    mul-members
+    (λ c. omega arith)
     slice-write-members
     add-p
-    wide-requires
+    (λ c κs. tt)
     mul-y
     element-copy-out-y
     loop-less

@@ -1,3 +1,4 @@
+-- `pull` meets its contract: the least word that is not 0, and its least bit. Assumes nothing.
 use Rattle.circles.proofs.Words.{Lowest, low-word, word-some, low-bit, pull-none, pull-law, one-word, two-words}
 use lib.Count.{trailingZeros}
 use lib.Bits.{bitAnd}
@@ -9,11 +10,6 @@ use native.Mathlib.Omega.{arith}
 use borrow.Author.Needs.{needs}
 use Rattle.circles.proofs.ranks.pull.Statement.{statement}
 use Rattle.circles.proofs.ranks.pull.Tie as tie
-use Rattle.circles.proofs.ranks.pull.Reads as reads
-use Rattle.circles.proofs.ranks.pull.Lts as lts
-
-element-copy-out-s : tie.Need-element-copy-out-s
-element-copy-out-s c = search needs
 
 returns : tie.Need-returns
 returns c = pull-none (c .before .before .args .ready .now) (c .before .before .pre) (c .if1 .taken)
@@ -51,12 +47,6 @@ mul-ready c = omega (arith, kw (c .before) .small)
 element-write-ready : tie.Need-element-write-ready
 element-write-ready c = omega (arith, kw (c .before) .small)
 
-sub-ready : tie.Need-sub-ready
-sub-ready c = search needs
-
-element-write-ready-2 : tie.Need-element-write-ready-2
-element-write-ready-2 c = search needs
-
 mul-result : tie.Need-mul-result
 mul-result c = omega (arith, kw (c .before .before) .small)
 
@@ -83,7 +73,7 @@ pub pull-spec : {M : Type 1} → statement M
 pull-spec =
     tie.close
     (tie.spec
-    element-copy-out-s
+    (λ c. search needs)
     returns
     cast-k
     mul-w
@@ -92,8 +82,8 @@ pull-spec =
     sub-rest
     mul-ready
     element-write-ready
-    sub-ready
-    element-write-ready-2
+    (λ c. search needs)
+    (λ c. search needs)
     mul-result
     add-result
     returns-2

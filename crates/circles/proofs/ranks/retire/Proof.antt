@@ -1,3 +1,4 @@
+-- `retire` meets its contract: what stands before e on the chain is sure. Assumes nothing.
 use Rattle.circles.proofs.Cursors.{moved-none, moved-join, Passing, passing-start, passing-more}
 use Rattle.circles.proofs.Chains.{at-readers}
 use Rattle.circles.specs.Turns.{Moved, SureAt}
@@ -8,10 +9,6 @@ use Prim.Native.Nat.{ℕ, _+_, _*_, _/_, _-_, _≤_, _<_}
 use native.Mathlib.Omega.{arith}
 use Rattle.circles.proofs.ranks.retire.Statement.{statement}
 use Rattle.circles.proofs.ranks.retire.Tie as tie
-use Rattle.circles.proofs.ranks.retire.Reads as reads
-use Rattle.circles.proofs.ranks.retire.Lts as lts
-use Rattle.circles.proofs.labels.wide.Reads as wide-reads
-use Rattle.circles.proofs.ranks.touch.Reads as touch-reads
 
 abbrev Inv-loop : tie.InvT-loop
 Inv-loop n a b first next label after taken y cur₀ ready₀ e₀ cur ready e = Moved n a b label taken cur₀ ready₀ cur ready × Passing n a b label taken cur y e
@@ -24,9 +21,6 @@ mul-wide c = omega (arith, c .before .pre .0, c .before .pre .2 .few)
 
 element-copy-out-wide : tie.Need-element-copy-out-wide Inv-loop μ-loop
 element-copy-out-wide c = omega (arith, c .before .pre .0, c .before .pre .2 .few)
-
-wide-requires : tie.Need-wide-requires Inv-loop μ-loop
-wide-requires c κs = tt
 
 loop-holds : tie.Need-loop-holds Inv-loop μ-loop
 loop-holds c = let s = c .before .before .before in let g = s .args in (
@@ -48,9 +42,6 @@ mul-wide-2 c = omega (arith, c .before .before .before .loop-test .taken, c .bef
 
 element-copy-out-wide-2 : tie.Need-element-copy-out-wide-2 Inv-loop μ-loop
 element-copy-out-wide-2 c = omega (arith, c .before .before .before .loop-test .taken, c .before .before .before .before .before .before .before .before .pre .2 .few)
-
-wide-requires-2 : tie.Need-wide-requires-2 Inv-loop μ-loop
-wide-requires-2 c κs = tt
 
 -- the next of the chain
 onward : (c : tie.After-wide2 Inv-loop μ-loop) → (
@@ -86,14 +77,14 @@ retire-spec =
     μ-loop
     mul-wide
     element-copy-out-wide
-    wide-requires
+    (λ c κs. tt)
     loop-holds
     mul-loop
     cast-touch
     touch-requires
     mul-wide-2
     element-copy-out-wide-2
-    wide-requires-2
+    (λ c κs. tt)
     loop-less
     loop-again
     returns)

@@ -1,3 +1,4 @@
+-- `retire_circle` meets its contract: what reads the members passed is sure. Assumes nothing.
 use Rattle.circles.proofs.Cursors.{moved-none, moved-join, Walked, walked-start, walked-more}
 use Rattle.circles.specs.Turns.{Moved}
 use Rattle.circles.specs.Search.{Next, placeOf}
@@ -7,10 +8,6 @@ use Prim.Native.Nat.{ℕ, _+_, _*_, _-_, _≤_, _<_}
 use native.Mathlib.Omega.{arith}
 use Rattle.circles.proofs.ranks.retire_circle.Statement.{statement}
 use Rattle.circles.proofs.ranks.retire_circle.Tie as tie
-use Rattle.circles.proofs.ranks.retire_circle.Reads as reads
-use Rattle.circles.proofs.ranks.retire_circle.Lts as lts
-use Rattle.circles.proofs.labels.wide.Reads as wide-reads
-use Rattle.circles.proofs.ranks.retire.Reads as retire-reads
 
 abbrev Inv-loop : tie.InvT-loop
 Inv-loop n a b first next label after taken l cur₀ ready₀ y₀ cur ready y = Moved n a b label taken cur₀ ready₀ cur ready × Walked n a b label taken cur l y
@@ -30,9 +27,6 @@ mul-wide c = omega (arith, c .before .before .before .loop-test .taken, c .befor
 
 element-copy-out-wide : tie.Need-element-copy-out-wide Inv-loop μ-loop
 element-copy-out-wide c = omega (arith, c .before .before .before .loop-test .taken, c .before .before .before .before .before .before .pre .2 .few)
-
-wide-requires : tie.Need-wide-requires Inv-loop μ-loop
-wide-requires c κs = tt
 
 -- the next member
 onward : (c : tie.After-wide Inv-loop μ-loop) → (
@@ -68,7 +62,7 @@ retire-circle-spec =
     retire-requires
     mul-wide
     element-copy-out-wide
-    wide-requires
+    (λ c κs. tt)
     loop-less
     loop-again
     returns)

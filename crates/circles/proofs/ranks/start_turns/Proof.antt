@@ -1,3 +1,4 @@
+-- `start_turns` meets its contract: the first l slots are looked at. Assumes nothing.
 use Rattle.circles.proofs.Taking.{turn-none}
 use Rattle.circles.specs.Turns.{Turn}
 use mathlib.Core.Path.{_≡_, refl, sym, ap, subst, _∙_}
@@ -5,9 +6,6 @@ use Prim.Native.Nat.{ℕ, _+_, _-_, _≤_, _<_}
 use native.Mathlib.Omega.{arith}
 use Rattle.circles.proofs.ranks.start_turns.Statement.{statement}
 use Rattle.circles.proofs.ranks.start_turns.Tie as tie
-use Rattle.circles.proofs.ranks.start_turns.Reads as reads
-use Rattle.circles.proofs.ranks.start_turns.Lts as lts
-use Rattle.circles.proofs.ranks.start_cursor.Reads as start-cursor-reads
 
 abbrev Inv-loop : tie.InvT-loop
 Inv-loop n a b label after taken cur₀ ready₀ l₀ cur ready l = Turn n a b label taken cur ready l × (l ≤ n)
@@ -24,12 +22,6 @@ cast-start-cursor c = omega (arith, c .loop-test .taken, c .before .before .befo
 start-cursor-requires : tie.Need-start-cursor-requires Inv-loop μ-loop
 start-cursor-requires c κs = (c .before .before .before .before .before .pre .0, c .before .before .loop-test .taken, c .before .before .before .before .before .pre .1 .untaken, c .before .before .before .loop .inv .0)
 
-add-l : tie.Need-add-l Inv-loop μ-loop
-add-l c = omega arith
-
-loop-less : tie.Need-loop-less Inv-loop μ-loop
-loop-less c = omega arith
-
 loop-again : tie.Need-loop-again Inv-loop μ-loop
 loop-again c = (c .start-cursor .ensures, omega (arith, c .before .before .before .loop-test .taken))
 
@@ -45,7 +37,7 @@ start-turns-spec =
     loop-holds
     cast-start-cursor
     start-cursor-requires
-    add-l
-    loop-less
+    (λ c. omega arith)
+    (λ c. omega arith)
     loop-again
     returns)

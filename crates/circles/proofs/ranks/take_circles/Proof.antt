@@ -1,3 +1,4 @@
+-- `take_circles` meets its contract: the circles laid so far and what is left of the ranking are the ranking. Assumes nothing.
 use Rattle.circles.proofs.Ranking.{Going, going-first, going-room, going-more, going-end, listed-first, stops, ranking-zero}
 use Rattle.circles.proofs.Taking.{lead, cursors-then, turn-then}
 use Rattle.circles.specs.Turns.{Turn, Pulled, membersFrom}
@@ -12,11 +13,6 @@ use borrow.Author.Needs.{needs}
 use native.Mathlib.Omega.{arith}
 use Rattle.circles.proofs.ranks.take_circles.Statement.{statement}
 use Rattle.circles.proofs.ranks.take_circles.Tie as tie
-use Rattle.circles.proofs.ranks.take_circles.Reads as reads
-use Rattle.circles.proofs.ranks.take_circles.Lts as lts
-use Rattle.circles.proofs.ranks.lay_circle.Reads as lay-circle-reads
-use Rattle.circles.proofs.ranks.pull.Reads as pull-reads
-use Rattle.circles.proofs.ranks.retire_circle.Reads as retire-circle-reads
 
 abbrev Inv-loop : tie.InvT-loop
 Inv-loop n a b first next label after taken₀ cur₀ ready₀ members₀ ends₀ count₀ pos₀ taken cur ready members ends count pos = Turn n a b label taken cur ready n × Going n a b taken members₀ ends₀ members ends count pos × (length members ≡ length members₀) × (length ends ≡ length ends₀)
@@ -91,9 +87,6 @@ add-count c = omega (arith, c .before .before .before .before .before .before .b
 cast-ends : tie.Need-cast-ends Inv-loop μ-loop
 cast-ends c = omega (arith, room (c .before .before .before .before), c .before .before .lay-circle .ensures .1, c .before .before .before .before .before .before .before .before .before .before .before .before .pre .0 .0 .few)
 
-mul-ends : tie.Need-mul-ends Inv-loop μ-loop
-mul-ends c = omega arith
-
 slice-write-ends-2 : tie.Need-slice-write-ends-2 Inv-loop μ-loop
 slice-write-ends-2 c = omega (arith, wide-ends (c .before .before .before .before))
 
@@ -143,7 +136,7 @@ take-circles-spec =
     lay-circle-requires
     add-count
     cast-ends
-    mul-ends
+    (λ c. omega arith)
     slice-write-ends-2
     retire-circle-requires
     loop-less

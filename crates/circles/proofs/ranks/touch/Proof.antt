@@ -1,3 +1,4 @@
+-- `touch` meets its contract: the cursor moves where it stands at w. Assumes nothing.
 use Rattle.circles.proofs.Cursors.{moved-none, moved-on, moved-past, sure-at}
 use Rattle.circles.specs.Turns.{SureAt, Advanced, Put}
 use lib.ListN.{length, getD, set}
@@ -7,49 +8,14 @@ use Prim.Native.Nat.{ℕ, _+_, _-_, _≤_, _<_}
 use borrow.Author.Needs.{needs}
 use Rattle.circles.proofs.ranks.touch.Statement.{statement}
 use Rattle.circles.proofs.ranks.touch.Tie as tie
-use Rattle.circles.proofs.ranks.touch.Reads as reads
-use Rattle.circles.proofs.ranks.touch.Lts as lts
-use Rattle.circles.proofs.labels.wide.Reads as wide-reads
-use Rattle.circles.proofs.ranks.advance.Reads as advance-reads
-use Rattle.circles.proofs.ranks.put.Reads as put-reads
-
-mul-l : tie.Need-mul-l
-mul-l c = search needs
-
-shared-slice-read-l : tie.Need-shared-slice-read-l
-shared-slice-read-l c = search needs
-
-wide-requires : tie.Need-wide-requires
-wide-requires c κs = search needs
 
 returns : tie.Need-returns
 returns c = let s = c .before .before .before .before in let g = s .args in
     (moved-none (g .n) (s .pre .0 .few) (g .a .now) (g .b .now) (g .label .now) (g .taken .now) (g .cur .now) (g .ready .now) (s .pre .2) (s .pre .3), record { at = λ h. absurd (omega (arith, h, c .before .wide .ensures, c .if1 .taken)) })
 
-mul-if2 : tie.Need-mul-if2
-mul-if2 c = search needs
-
-element-copy-out-if2 : tie.Need-element-copy-out-if2
-element-copy-out-if2 c = search needs
-
 returns-2 : tie.Need-returns-2
 returns-2 c = let s = c .before .before .before .before .before .before in let g = s .args in
     (moved-none (g .n) (s .pre .0 .few) (g .a .now) (g .b .now) (g .label .now) (g .taken .now) (g .cur .now) (g .ready .now) (s .pre .2) (s .pre .3), record { at = λ h q. absurd (c .if2 .taken (ap (λ (u : ℕ). getD (g .cur .now) u 0) (c .before .before .before .wide .ensures) ∙ q)) })
-
-advance-requires : tie.Need-advance-requires
-advance-requires c κs = search needs
-
-mul-cur : tie.Need-mul-cur
-mul-cur c = search needs
-
-element-write-cur : tie.Need-element-write-cur
-element-write-cur c = search needs
-
-wide-requires-2 : tie.Need-wide-requires-2
-wide-requires-2 c κs = search needs
-
-put-requires : tie.Need-put-requires
-put-requires c κs = search needs
 
 -- the circle's own label, its cursor, and how it moved
 own : (c : tie.Else2) → (let w = c .before .before .before in getD (w .before .before .before .args .label .now) (w .wide .result) 0 ≡ w .wide .result)
@@ -89,17 +55,17 @@ pub touch-spec : {M : Type 1} → statement M
 touch-spec =
     tie.close
     (tie.spec
-    mul-l
-    shared-slice-read-l
-    wide-requires
+    (λ c. search needs)
+    (λ c. search needs)
+    (λ c κs. search needs)
     returns
-    mul-if2
-    element-copy-out-if2
+    (λ c. search needs)
+    (λ c. search needs)
     returns-2
-    advance-requires
-    mul-cur
-    element-write-cur
-    wide-requires-2
-    put-requires
+    (λ c κs. search needs)
+    (λ c. search needs)
+    (λ c. search needs)
+    (λ c κs. search needs)
+    (λ c κs. search needs)
     returns-3
     returns-4)
