@@ -4,3 +4,4 @@ pub mod Shown
 pub mod Writing
 pub mod Taking
 pub mod Sofar
+pub mod Readings

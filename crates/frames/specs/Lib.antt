@@ -5,3 +5,4 @@ pub mod Walk
 pub mod Written
 pub mod Read
 pub mod Moved
+pub mod Reading
