@@ -5,3 +5,5 @@ pub mod Writing
 pub mod Taking
 pub mod Sofar
 pub mod Readings
+pub mod Back
+pub mod Forth

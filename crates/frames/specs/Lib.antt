@@ -6,3 +6,4 @@ pub mod Written
 pub mod Read
 pub mod Moved
 pub mod Reading
+pub mod Laws

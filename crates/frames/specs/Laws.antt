@@ -1,0 +1,57 @@
+-- What is promised of frames: windows, and that what is written is read and what is read is written. Assumes nothing.
+use mathlib.Core.Path.{_≡_}
+use mathlib.Core.List.{List, _++_}
+use Prim.Native.Nat.{ℕ, _+_, _^_, _≤_, _<_}
+use lib.ListN.{length, take, drop}
+use Rattle.frames.specs.Frames.{frameAt, lineAfter}
+use Rattle.frames.specs.Text.{textOf}
+use Rattle.frames.specs.declared.Children.{Children}
+use Rattle.frames.specs.declared.Step.{Step}
+use Rattle.frames.specs.declared.Frame.{Frame}
+use Rattle.frames.specs.declared.Frame.the-variants.{Header, Symbol, Production, Equation, Node, Load, Replace, Dump, Refused, Over}
+
+-- a step of a text that starts n bytes further on
+abbrev pub shifted : ℕ → Step → Step
+shifted n r = record { frame = r .frame; place = n + r .place; line = r .line }
+
+-- 29 bytes decide a frame, and a text in front only shifts it: so a window reads as the whole text does
+pub record Windows : Type 0 where
+  pub ahead : (s t : List ℕ) (place line : ℕ) → place + 29 ≤ length s → frameAt (s ++ t) place line ≡ frameAt s place line
+  pub behind : (s t : List ℕ) (place line : ℕ) → frameAt (s ++ t) (length s + place) line ≡ shifted (length s) (frameAt t place line)
+
+-- the children that a production has fit a byte, and those that it has not are 0
+pub record Kids (n : ℕ) (cs : Children) : Type 0 where
+  pub one : cs .one < 2 ^ 8
+  pub two : cs .two < 2 ^ 8
+  pub three : cs .three < 2 ^ 8
+  pub four : cs .four < 2 ^ 8
+  pub none : n ≤ 0 → cs .one ≡ 0
+  pub single : n ≤ 1 → cs .two ≡ 0
+  pub double : n ≤ 2 → cs .three ≡ 0
+  pub triple : n ≤ 3 → cs .four ≡ 0
+
+-- a frame that has a text: a kind whose fields fit; a production has four children at most
+abbrev pub Fits : Frame → Type 0
+Fits (Header a b) = (a < 2 ^ 8) × (b < 2 ^ 8)
+Fits (Symbol a b) = (a < 2 ^ 8) × (b < 2 ^ 8)
+Fits (Production l n cs) = (l < 2 ^ 8) × ((n ≤ 4) × Kids n cs)
+Fits (Equation op a b c) = (op < 2 ^ 8) × (((a .position < 2 ^ 8) × (a .index < 2 ^ 8)) × (((b .position < 2 ^ 8) × (b .index < 2 ^ 8)) × (c < 2 ^ 64)))
+Fits (Node p o) = (p < 2 ^ 8) × (o < 2 ^ 64)
+Fits (Load n) = n < 2 ^ 16
+Fits (Replace r n) = (r < 2 ^ 16) × (n < 2 ^ 16)
+Fits Dump = Unit {0}
+Fits (Refused r l) = ⊥
+Fits Over = ⊥
+
+-- what is written is read
+abbrev pub Back : Type 0
+Back = (f : Frame) (rest : List ℕ) (line : ℕ) → Fits f → frameAt (textOf f ++ rest) 0 line ≡ record { frame = f; place = length (textOf f); line = lineAfter line }
+
+-- what is read is written: the bytes that the frame was read from, and no others
+pub record Forth (s : List ℕ) (place line : ℕ) (f : Frame) : Type 0 where
+  pub text : take (length (textOf f)) (drop place s) ≡ textOf f
+  pub behind : frameAt s place line .place ≡ place + length (textOf f)
+  pub next : frameAt s place line .line ≡ lineAfter line
+
+abbrev pub ForthAll : Type 0
+ForthAll = (s : List ℕ) (place line : ℕ) → Fits (frameAt s place line .frame) → Forth s place line (frameAt s place line .frame)
