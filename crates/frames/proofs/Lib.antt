@@ -7,3 +7,4 @@ pub mod Sofar
 pub mod Readings
 pub mod Back
 pub mod Forth
+pub mod Trees

@@ -1,10 +1,11 @@
 -- What is promised of frames: windows, and that what is written is read and what is read is written. Assumes nothing.
 use mathlib.Core.Path.{_≡_}
-use mathlib.Core.List.{List, _++_}
-use Prim.Native.Nat.{ℕ, _+_, _^_, _≤_, _<_}
+use mathlib.Core.List.{List, [], _∷_, _++_}
+use Prim.Native.Nat.{ℕ, zero, suc, _+_, _^_, _≤_, _<_}
 use lib.ListN.{length, take, drop}
 use Rattle.frames.specs.Frames.{frameAt, lineAfter}
-use Rattle.frames.specs.Text.{textOf}
+use Rattle.frames.specs.Text.{textOf, treeText}
+use Rattle.frames.specs.Planting.{good, treeAt}
 use Rattle.frames.specs.declared.Children.{Children}
 use Rattle.frames.specs.declared.Step.{Step}
 use Rattle.frames.specs.declared.Frame.{Frame}
@@ -55,3 +56,29 @@ pub record Forth (s : List ℕ) (place line : ℕ) (f : Frame) : Type 0 where
 
 abbrev pub ForthAll : Type 0
 ForthAll = (s : List ℕ) (place line : ℕ) → Fits (frameAt s place line .frame) → Forth s place line (frameAt s place line .frame)
+
+-- nodes as memory has them: a byte and a set each
+abbrev pub AllFit : List ℕ → List ℕ → Type 0
+AllFit [] [] = Unit {0}
+AllFit [] (o ∷ owns) = ⊥
+AllFit (p ∷ ps) [] = ⊥
+AllFit (p ∷ ps) (o ∷ owns) = (p < 2 ^ 8) × ((o < 2 ^ 64) × AllFit ps owns)
+
+-- the number of the line that is n lines further on
+abbrev pub linesAfter : ℕ → ℕ → ℕ
+linesAfter zero line = line
+linesAfter (suc n) line = linesAfter n (lineAfter line)
+
+-- a tree that is written reads back equal
+abbrev pub TreeBack : Type 0
+TreeBack = (ps owns rest : List ℕ) (line : ℕ) → AllFit ps owns → length ps < 2 ^ 16
+    → treeAt (treeText ps owns ++ rest) 0 line ≡ good ps owns (length (treeText ps owns)) (linesAfter (suc (length ps)) line)
+
+-- a text that is read as a tree is the tree's text
+pub record TreeForth (s : List ℕ) (place : ℕ) (ps owns : List ℕ) (end : ℕ) : Type 0 where
+  pub text : take (length (treeText ps owns)) (drop place s) ≡ treeText ps owns
+  pub behind : end ≡ place + length (treeText ps owns)
+  pub fit : AllFit ps owns
+
+abbrev pub TreeForthAll : Type 0
+TreeForthAll = (s : List ℕ) (place line : ℕ) (ps owns : List ℕ) (end next : ℕ) → treeAt s place line ≡ good ps owns end next → TreeForth s place ps owns end

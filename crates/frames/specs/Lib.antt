@@ -7,3 +7,4 @@ pub mod Read
 pub mod Moved
 pub mod Reading
 pub mod Laws
+pub mod Planting
