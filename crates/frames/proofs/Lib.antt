@@ -4,3 +4,7 @@ pub mod Shown
 pub mod Writing
 pub mod Taking
 pub mod Sofar
+pub mod Readings
+pub mod Back
+pub mod Forth
+pub mod Trees

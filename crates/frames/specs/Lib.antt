@@ -5,3 +5,6 @@ pub mod Walk
 pub mod Written
 pub mod Read
 pub mod Moved
+pub mod Reading
+pub mod Laws
+pub mod Planting

@@ -4,6 +4,7 @@ mod out;
 mod plant;
 mod read;
 mod walk;
+mod whole;
 mod write;
 
 pub use kinds::frame_at;
@@ -16,6 +17,7 @@ pub use read::take_frame;
 use refusal::Refusal;
 use sets::Argument;
 pub use walk::next_of;
+pub use whole::read_table;
 pub use write::write_table;
 ghost use mathlib.Core.Path.{_≡_};
 ghost use Rattle.frames.specs.Frames.{frameAt};
@@ -103,6 +105,12 @@ pub enum Written {
 pub enum Taken {
     Next(Expected),
     Stopped { refusal: Refusal, line: u32 },
+}
+
+// Where the text behind a table starts, and its line; or why no table was read, and the line.
+pub enum ReadTable {
+    Read { place: usize, line: u32 },
+    Refused { refusal: Refusal, line: u32 },
 }
 
 // A reader: the lent text, the place of the next line and its number.
