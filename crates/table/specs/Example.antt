@@ -8,7 +8,7 @@ use Rattle.table.specs.Words.{symbolCount, productionCount, synthesized,
 use Rattle.table.specs.Equations.{opNumber, aField, bField, usesA, usesB, usesC, misformed}
 use Rattle.table.specs.Judge.{partOf, frames, misnamed, refusalAt, judgeTable}
 
-put : List ℕ → ℕ → ℕ → List ℕ
+unfoldable pub put : List ℕ → ℕ → ℕ → List ℕ
 put t i v = set t i v
 
 -- two symbols, three productions; what lies behind the last equation is no part of the table

@@ -1,3 +1,10 @@
 pub mod Tree
 pub mod Owner
 pub mod Replace
+pub mod Refusals
+pub mod Says
+pub mod Spans
+pub mod Judged
+pub mod Moved
+pub mod Replacement
+pub mod Example

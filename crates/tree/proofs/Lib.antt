@@ -1,0 +1,10 @@
+pub mod Nodes
+pub mod Walks
+pub mod Handed
+pub mod Size
+pub mod Exchange
+pub mod Symbols
+pub mod Owner
+pub mod Moved
+pub mod Elements
+pub mod Replace
