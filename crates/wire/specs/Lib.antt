@@ -1,3 +1,4 @@
 pub mod Instances
 pub mod Arrays
+pub mod Laws
 pub mod Example

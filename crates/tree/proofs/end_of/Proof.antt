@@ -25,12 +25,11 @@ fits c =
 again : tie.Need-loop-again Inv-loop μ-loop
 again c =
     let s = c .before .before .before .before .before .before .before .before in
-    let l = c .before .before .loop in
-    (
+    let l = c .before .before .loop in (
       omega arith,
       ⊎-elim (λ w. w .2 ∙ turn-in (s .args .table .now) (s .args .productions .now) (s .args .ends .now) (s .args .at) (l .child) (l .next) (l .inv .1) (s .pre .1 .1 .1) (w .0 .taken))
-      (λ w. w .1 ∙ turn-out (s .args .table .now) (s .args .productions .now) (s .args .ends .now) (s .args .at) (l .child) (l .next) (l .inv .1) (w .0 .left))
-      (c .if1 .came),
+          (λ w. w .1 ∙ turn-out (s .args .table .now) (s .args .productions .now) (s .args .ends .now) (s .args .at) (l .child) (l .next) (l .inv .1) (w .0 .left))
+          (c .if1 .came),
     )
 
 last : tie.Need-returns Inv-loop μ-loop

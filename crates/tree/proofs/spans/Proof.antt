@@ -20,8 +20,7 @@ abbrev μ-loop : tie.MeasureT-loop
 again : tie.Need-loop-again Inv-loop μ-loop
 again c =
     let s = c .before .before .before .before .before .before in
-    let l = c .before .before .before .loop in
-    (
+    let l = c .before .before .before .loop in (
       simp length-set (l .inv .0),
       omega arith,
       rw (c .end-of .ensures) (ended-more (s .args .table .now) (s .args .productions .now) (l .ends) (l .at - 1) (omega arith) (λ n a b. l .inv .2 n (omega arith) b)),
