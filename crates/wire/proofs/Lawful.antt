@@ -48,7 +48,7 @@ constant-small t w rule = constant-in (headAt t rule) (constantAt t rule) (w _) 
 -- ---- lawful
 
 -- what is read where an instance is declared
-args-declared : (t ns : List ℕ) (owns : List ℕ) (x : ℕ) → declared t ns x ≡ true → system t ns owns .args x ≡ argsAt t ns x
+pub args-declared : (t ns : List ℕ) (owns : List ℕ) (x : ℕ) → declared t ns x ≡ true → system t ns owns .args x ≡ argsAt t ns x
 args-declared t ns owns x d = rw d
 
 module _ (t ns owns : List ℕ) where

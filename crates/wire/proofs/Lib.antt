@@ -1,2 +1,4 @@
 pub mod Places
 pub mod Lawful
+pub mod Unsown
+pub mod Staying

@@ -1,4 +1,5 @@
 pub mod Instances
 pub mod Arrays
 pub mod Laws
+pub mod Replaced
 pub mod Example
