@@ -7,3 +7,5 @@ pub mod Restriction
 pub mod Sums
 pub mod Working
 pub mod Finishing
+pub mod Storing
+pub mod Places

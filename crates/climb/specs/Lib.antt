@@ -6,3 +6,5 @@ pub mod Ordered
 pub mod Restrict
 pub mod Circuit
 pub mod CircuitLaws
+pub mod Memory
+pub mod Wired
