@@ -2,4 +2,5 @@ pub mod Instances
 pub mod Arrays
 pub mod Laws
 pub mod Replaced
+pub mod ArrayLaws
 pub mod Example
