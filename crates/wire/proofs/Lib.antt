@@ -3,3 +3,7 @@ pub mod Lawful
 pub mod Unsown
 pub mod Staying
 pub mod Holding
+pub mod Rooms
+pub mod Reading
+pub mod Turning
+pub mod Ending
