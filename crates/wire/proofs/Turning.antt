@@ -1,5 +1,5 @@
 -- Turn by turn, position by position, node by node: the wiring as it is made. Assumes nothing.
-use Prim.Native.Nat.{ℕ, zero, suc, _+_, _-_, _*_, _/_, _%_, _≤_, _<_}
+use Prim.Native.Nat.{ℕ, zero, suc, _+_, _-_, _*_, _/_, _%_, _≤_, _<_, zero-le}
 use mathlib.Core.Path.{_≡_, refl, sym, ap, _∙_}
 use mathlib.Core.Bool.{Bool, true, false, cond, true≢false}
 use mathlib.Core.List.{List, [], _∷_, map}
@@ -18,7 +18,7 @@ use Rattle.tree.proofs.Symbols.{child-below, child-symbol}
 use Rattle.climb.proofs.Lists.{either}
 use Rattle.wire.specs.Instances.{declared, Place, placeOf, ruleAt, spot, named, argsAt}
 use Rattle.wire.specs.Arrays.{firstAt, secondAt, leftAt, ruleIn}
-use Rattle.wire.specs.Turns.{Held, Room, Kids, firstIndex, Wires, turn, Partly}
+use Rattle.wire.specs.Turns.{Held, Room, Kids, firstIndex, setsOf, Wires, turn, Partly}
 use Rattle.wire.proofs.Places.{Defined, here, parent, opIn, has-synthesized, has-inherited, declared-below, is-declared, place-defined, defined-has, defined-node, defined-rule, defined-args, number-in}
 
 -- a place of the table defines one instance of a node
@@ -141,6 +141,16 @@ module _ (t ns : List ℕ) (held : Held t ns) where
     pub spot-below : (at : ℕ) → at ≤ childCount t p → spot t ns q at < length ns
     spot-below zero b = h
     spot-below (suc k) b = child-below t ns 0 (held .sound) (kid-of k b)
+
+    -- the symbol of the node at a position tells how many sets are defined there
+    pub symbol-small : (at : ℕ) → at ≤ childCount t p → leftOf t (getD ns (spot t ns q at) 0) < 32
+    symbol-small at b =
+        let n = number-in t ns (held .judged) (held .sound) (spot t ns q at) (spot-below at b) in
+        omega (arith, limits t (held .judged) .small (getD ns (spot t ns q at) 0) 0 n zero-le, limits t (held .judged) .symbols)
+
+    pub sets-are : (at : ℕ) → at ≤ childCount t p → setsOf t (leftOf t (getD ns (spot t ns q at) 0)) at ≡ defined t p at
+    sets-are zero b = refl
+    sets-are (suc k) b = ap (inherited t) (child-symbol t ns 0 (held .sound) (kid-of k b))
 
     abbrev slot : ℕ → ℕ → ℕ
     slot at i = 8 * spot t ns q at + (firstIndex at + i)

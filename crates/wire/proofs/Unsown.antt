@@ -1,9 +1,9 @@
 -- The instances that a replacement doesn't sow, and where they were. Assumes nothing.
 use Prim.Native.Nat.{ℕ, _+_, _*_, _/_, _%_, _≤_, _<_}
-use mathlib.Core.Path.{_≡_, sym}
-use mathlib.Core.Bool.{Bool, true, false, true≢false}
+use mathlib.Core.Path.{_≡_, refl, sym}
+use mathlib.Core.Bool.{Bool, true, false, _&&_, _||_, true≢false}
 use lib.Dec.{ltb, eqb}
-use borrow.Author.Tests.{lt-ltb, eq-eqb, ne-eqb}
+use borrow.Author.Tests.{lt-ltb, ltb-false, eq-eqb}
 use native.Mathlib.Decide.{decLt, ℕ-discrete}
 use native.Mathlib.Omega.{arith}
 use Rattle.tree.specs.Moved.{Moved, stays, shifts, Outer, ahead, behind}
@@ -17,21 +17,23 @@ pub data Unsown (r s x : ℕ) : Type 0 where
   point : x / 8 ≡ r → 4 ≤ x % 8 → Unsown r s x
   after : r + s ≤ x / 8 → Unsown r s x
 
+-- what the two tests say of an instance that isn't sown
+split : (a b c d : Bool) → ((a && b) || (c && d)) ≡ false → (a ≡ true → b ≡ false) × (c ≡ true → d ≡ false)
+split true true c d h = absurd (true≢false h)
+split true false c d h = (λ e. refl, λ e. rw e at h)
+split false b c d h = (λ e. absurd (true≢false (sym e)), λ e. rw e at h)
+
 pub unsown : (r s x : ℕ) → sownBy r s x ≡ false → Unsown r s x
 unfolding sownBy
-unsown r s x h = elim (decLt (x / 8) r) [
-  | yes a ↦ before a
-  | no a ↦ elim (decLt (x / 8) (r + s)) [
-    | no b ↦ after (omega arith)
-    | yes b ↦ elim (ℕ-discrete (x / 8) r) [
-      | yes c ↦ elim (decLt (x % 8) 4) [
-        | yes d ↦ absurd (true≢false (rw (eq-eqb (x / 8) r c, lt-ltb (x % 8) 4 d) at h))
-        | no d ↦ point c (omega arith)
+unsown r s x h =
+    let t = split (eqb (x / 8) r) (ltb (x % 8) 4) (ltb r (x / 8)) (ltb (x / 8) (r + s)) h in
+    elim (decLt (x / 8) r) [
+      | yes a ↦ before a
+      | no a ↦ elim (ℕ-discrete (x / 8) r) [
+        | yes c ↦ point c (ltb-false (x % 8) 4 (t .0 (eq-eqb (x / 8) r c)))
+        | no c ↦ after (ltb-false (x / 8) (r + s) (t .1 (lt-ltb r (x / 8) (omega arith))))
       ]
-      | no c ↦ absurd (true≢false (rw (ne-eqb (x / 8) r c, lt-ltb r (x / 8) (omega arith), lt-ltb (x / 8) (r + s) b) at h))
     ]
-  ]
-]
 
 pub unsown-survives : {r s x : ℕ} → Unsown r s x → Survives r s x
 unsown-survives (before h) = upTo (omega arith)

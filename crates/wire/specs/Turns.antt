@@ -4,7 +4,7 @@ use mathlib.Core.Path.{_≡_}
 use mathlib.Core.Bool.{Bool, true, false}
 use mathlib.Core.List.{List, [], _∷_}
 use lib.ListN.{length, getD}
-use Rattle.table.specs.Words.{childCount}
+use Rattle.table.specs.Words.{synthesized, inherited, childCount}
 use Rattle.table.specs.Judge.{judgeTable}
 use Rattle.tree.specs.Tree.{judgeNodes}
 use Rattle.tree.specs.Spans.{Ended}
@@ -50,6 +50,11 @@ pub record Fit (kids : List ℕ) (used : Bool) (o : ℕ) : Type 0 where
 abbrev pub firstIndex : ℕ → ℕ
 firstIndex zero = 0
 firstIndex (suc k) = 4
+
+-- how many they are, where the position's symbol is s
+abbrev pub setsOf : List ℕ → ℕ → ℕ → ℕ
+setsOf t s zero = synthesized t s
+setsOf t s (suc k) = inherited t s
 
 -- ---- in the midst
 

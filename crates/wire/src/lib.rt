@@ -1,7 +1,9 @@
 // The wiring of a tree: what each instance reads, the node that defines it and its rule. Node by node, from the ends of the subtrees alone.
 use table::child_count;
-use table::defined_at;
 use table::head_at;
+use table::inherited_of;
+use table::left_of;
+use table::synthesized_of;
 ghost use mathlib.Core.Path.{_≡_};
 ghost use mathlib.Core.Bool.{_&&_, cond};
 ghost use Prim.Native.Nat.{_+_, _*_, _<_, _≤_};
@@ -10,7 +12,7 @@ ghost use lib.ListN.{length, getD};
 ghost use Rattle.table.specs.Words.{childCount};
 ghost use Rattle.table.specs.Equations.{opNumber, aField, bField, usesA, usesB};
 ghost use Rattle.wire.specs.Arrays.{Wired};
-ghost use Rattle.wire.specs.Turns.{Held, Ends, Room, Kids, namedIn, Fit, firstIndex, Partly, Blank, Stay};
+ghost use Rattle.wire.specs.Turns.{Held, Ends, Room, Kids, namedIn, Fit, firstIndex, setsOf, Partly, Blank, Stay};
 
 // What an equation reads first and second, 65535 where it doesn't.
 pub struct Reads {
@@ -77,7 +79,18 @@ fn first_index(at: usize) -> usize
     4
 }
 
-// Wires the sets that node `q`'s production defines at a position.
+// How many sets of a position's symbol are defined there.
+fn sets_at(table: &[u64; 2657], s: usize, at: usize) -> usize
+    requires { ⌜ s < 32 ⌝ }
+    ensures { λ r. ⌜ r ≡ setsOf (now (table .entry)) s at ⌝ }
+{
+    if at == 0 {
+        return synthesized_of(table, s);
+    }
+    inherited_of(table, s)
+}
+
+// Wires the sets that node `q`'s production defines at a position. The node there tells the symbol.
 fn wire_position<'a>(
     table: &'a [u64; 2657],
     productions: &'a [u8],
@@ -99,8 +112,10 @@ fn wire_position<'a>(
     ensures { λ _. ⌜ Stay (8 * length (now (productions .entry))) (now (a .entry)) (now (b .entry)) (now (left .entry)) (now (rule .entry)) (now (a .exit)) (now (b .exit)) (now (left .exit)) (now (rule .exit)) ⌝ }
 {
     let p = wide(productions[q]);
-    let count = defined_at(table, p, at);
-    let from = 8 * wide16(kids[at]) + first_index(at);
+    let node = wide16(kids[at]);
+    let s = left_of(table, wide(productions[node]));
+    let count = sets_at(table, s, at);
+    let from = 8 * node + first_index(at);
     let mut i = 0;
     while i < count {
         let number = 20 * p + (4 * at + i);
@@ -161,7 +176,8 @@ fn wire_node<'a>(
     let mut kids = [0u16; 5];
     kids_of(table, productions, ends, q, &mut kids);
     let count = child_count(table, wide(productions[q]));
-    let mut at = 0;
+    wire_position(table, productions, &kids, q, 0, a, b, left, rule);
+    let mut at = 1;
     while at <= count {
         wire_position(table, productions, &kids, q, at, a, b, left, rule);
         at += 1;
