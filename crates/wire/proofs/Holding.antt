@@ -1,21 +1,20 @@
 -- The arrays of the wiring hold the system of the table and the tree. Assumes nothing.
-use Prim.Native.Nat.{ℕ, zero, suc, _+_, _-_, _*_, _/_, _%_, _≤_, _<_}
+use Prim.Native.Nat.{ℕ, zero, suc, _+_, _-_, _*_, _≤_, _<_}
 use mathlib.Core.Path.{_≡_, refl, sym, ap, ap₂, _∙_}
-use mathlib.Core.Bool.{Bool, true, false, cond, not, _&&_, or-true}
-use mathlib.Core.List.{List, [], _∷_, _++_, map, List·Memᴰ, List·Memᴰ·head, List·Memᴰ·tail}
+use mathlib.Core.Bool.{Bool, true, false, or-true}
+use mathlib.Core.List.{List, [], _∷_, map, List·Memᴰ·head, List·Memᴰ·tail}
 use mathlib.Core.Logic.{⊎-elim}
-use lib.ListN.{length, getD, set, drop, length-append, length-drop, length-map, List·getD-append}
-use lib.Dec.{ltb, eqb}
+use lib.ListN.{length, getD, set, drop, length-append, length-map, List·getD-append}
+use lib.Dec.{eqb}
 use borrow.Author.Tests.{lt-ltb, le-ltb, ne-eqb, eq-eqb}
 use native.Mathlib.Nat.{le-trans}
 use native.Mathlib.Decide.{decLt}
 use native.Mathlib.Omega.{arith}
-use Rattle.sets.specs.declared.Argument.{Argument}
 use Rattle.sets.specs.declared.Op.{Op}
 use Rattle.sets.specs.declared.Op.the-variants.{Constant, Own, JoinConstant, MeetConstant, Join, Meet, IfAll, IfMany, JoinOwn}
 use Rattle.sets.specs.Operations.{valueOf}
 use Rattle.sets.specs.Arguments.{argumentsOf}
-use Rattle.table.specs.Words.{productionCount, ruleOf}
+use Rattle.table.specs.Words.{ruleOf}
 use Rattle.table.specs.Equations.{equationAt}
 use Rattle.table.specs.Judge.{judgeTable}
 use Rattle.table.proofs.Limits.{limits}
@@ -24,13 +23,13 @@ use Rattle.circles.specs.Graph.{_∈_}
 use Rattle.circles.specs.Ranked.{member, allOf, upFrom}
 use Rattle.circles.specs.Arrays as arrays
 use Rattle.climb.specs.System.{Assignment, System}
-use Rattle.climb.specs.Memory.{at, stores, roundOn, stillOn}
-use Rattle.climb.specs.Wired.{readOf, evalOf, wired, Wiring}
+use Rattle.climb.specs.Memory.{at, stores}
+use Rattle.climb.specs.Wired.{readOf, evalOf, wired}
 use Rattle.climb.proofs.Lists.{either}
-use Rattle.wire.specs.Instances.{declared, Place, placeOf, ruleAt, opAt, named, argsAt, evalAt, system}
+use Rattle.wire.specs.Instances.{declared, placeOf, ruleAt, opAt, named, argsAt, evalAt, system}
 use Rattle.wire.specs.Arrays.{firstAt, secondAt, leftAt, ruleIn, bySlot, Wired}
-use Rattle.wire.specs.ArrayLaws.{Alike, WiredAlike, WiredWhole, SameRound, RoundAlike}
-use Rattle.wire.proofs.Places.{declared-is, declared-below, place-defined, defined-has, defined-rule, number-in}
+use Rattle.wire.specs.ArrayLaws.{WiredAlike, WiredWhole, RoundAlike}
+use Rattle.wire.proofs.Places.{declared-below, place-defined, defined-has, defined-rule, number-in}
 use Rattle.wire.proofs.Lawful.{args-closed}
 
 -- ---- lists of at most two arguments, each below n

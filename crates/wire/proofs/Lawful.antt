@@ -1,8 +1,8 @@
 -- The system of a sound tree over a sound table is lawful, and it has 4,092 instances at most. Assumes nothing.
-use Prim.Native.Nat.{ℕ, zero, suc, _+_, _-_, _*_, _^_, _/_, _%_, _≤_, _<_}
-use mathlib.Core.Path.{_≡_, refl, sym, ap, subst, _∙_}
-use mathlib.Core.Bool.{Bool, true, false, cond, true≢false}
-use mathlib.Core.List.{List, [], _∷_, map, List·Memᴰ, List·Memᴰ·not-nil, Memᴰ·map, Memᴰ·of-map}
+use Prim.Native.Nat.{ℕ, zero, suc, _+_, _-_, _*_, _^_, _%_, _≤_, _<_}
+use mathlib.Core.Path.{_≡_}
+use mathlib.Core.Bool.{Bool, true, false, cond}
+use mathlib.Core.List.{List, [], _∷_, List·Memᴰ, Memᴰ·map, Memᴰ·of-map}
 use mathlib.Core.Logic.{⊎-elim}
 use lib.ListN.{length, getD}
 use lib.Dec.{lit<}
@@ -21,9 +21,9 @@ use Rattle.tree.specs.Tree.{judgeNodes}
 use Rattle.tree.proofs.Exchange.{sound-some}
 use Rattle.circles.specs.Graph.{_∈_}
 use Rattle.circles.specs.Ranked.{keep, upFrom}
-use Rattle.climb.specs.System.{Assignment, System, Lawful, Gaining}
+use Rattle.climb.specs.System.{Assignment, Gaining}
 use Rattle.climb.proofs.Lists.{either}
-use Rattle.wire.specs.Instances.{declared, Place, placeOf, ruleAt, opAt, named, argsAt, evalAt, system}
+use Rattle.wire.specs.Instances.{declared, placeOf, ruleAt, opAt, named, argsAt, evalAt, system}
 use Rattle.wire.specs.Laws.{Words, TreeLawful, FewInstances}
 use Rattle.wire.proofs.Places.{declared-below, place-defined, root-undeclared, defined-has, defined-args, named-declared}
 

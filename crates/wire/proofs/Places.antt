@@ -1,18 +1,17 @@
 -- Which instances are declared, the place that defines each, and the equation there. Assumes nothing.
 use Prim.Native.Nat.{ℕ, zero, suc, _+_, _-_, _*_, _/_, _%_, _≤_, _<_}
-use mathlib.Core.Path.{_≡_, refl, sym, ap, _∙_}
-use mathlib.Core.Bool.{Bool, true, false, _&&_, cond}
+use mathlib.Core.Path.{_≡_, refl, ap, _∙_}
+use mathlib.Core.Bool.{Bool, true, _&&_}
 use mathlib.Core.List.{List, [], _∷_, map, List·Memᴰ}
 use mathlib.Core.Logic.{_⊎_, ⊎-elim}
 use lib.ListN.{length, getD}
-use lib.Dec.{ltb}
-use borrow.Author.Tests.{ltb-true, leb-true, lt-ltb, le-ltb, le-leb}
+use borrow.Author.Tests.{ltb-true, leb-true, lt-ltb, le-ltb}
 use native.Mathlib.Decide.{decLt}
 use native.Mathlib.Omega.{arith}
 use Rattle.sets.specs.declared.Argument.{Argument}
 use Rattle.sets.specs.declared.Op.{Op}
 use Rattle.sets.specs.Arguments.{argumentsOf, valueAt}
-use Rattle.table.specs.Words.{productionCount, synthesized, inherited, leftOf, childCount, childOf, symbolAt, hasSet, occurs, ruleOf}
+use Rattle.table.specs.Words.{productionCount, synthesized, inherited, leftOf, childCount, symbolAt, hasSet, occurs, ruleOf}
 use Rattle.table.specs.Equations.{equationAt}
 use Rattle.table.specs.Judge.{judgeTable}
 use Rattle.table.specs.Same.{Has}

@@ -1,9 +1,9 @@
 -- What an equation reads, from the fields of its head. Assumes nothing.
-use Prim.Native.Nat.{ℕ, zero, suc, _+_, _*_, _/_, _%_, _≤_, _<_}
-use mathlib.Core.Path.{_≡_, refl, sym, ap, _∙_}
+use Prim.Native.Nat.{ℕ, zero, suc, _/_, _%_, _≤_, _<_}
+use mathlib.Core.Path.{_≡_, refl, sym, _∙_}
 use mathlib.Core.Bool.{Bool, true, false, cond, and-false}
 use mathlib.Core.Logic.{⊎-elim}
-use mathlib.Core.List.{List, [], _∷_, map}
+use mathlib.Core.List.{List, map}
 use lib.ListN.{length, getD}
 use borrow.Author.Tests.{lt-leb}
 use native.Mathlib.Omega.{arith}
@@ -12,13 +12,11 @@ use Rattle.sets.specs.declared.Op.the-variants.{Constant}
 use Rattle.sets.specs.Arguments.{argumentsOf}
 use Rattle.table.specs.Words.{childCount, occurs, ruleOf, headAt, constantAt}
 use Rattle.table.specs.Equations.{opNumber, aField, bField, argument, operations, opOf, equationAt, usesA, usesB}
-use Rattle.table.specs.Judge.{judgeTable}
 use Rattle.table.specs.Same.{Has}
 use Rattle.table.proofs.Sound.{sound}
 use Rattle.table.proofs.Limits.{limits}
-use Rattle.tree.specs.Tree.{judgeNodes}
 use Rattle.climb.proofs.Lists.{either}
-use Rattle.wire.specs.Instances.{declared, spot, named}
+use Rattle.wire.specs.Instances.{named}
 use Rattle.wire.specs.Turns.{Held, Kids, namedIn, Fit}
 use Rattle.wire.proofs.Places.{opIn, occurs-is, occurs-index, declared-is, spot-declared, number-in}
 

@@ -1,7 +1,7 @@
 -- Instances that a replacement doesn't sow keep their equations, so a circle of such closes at its old values. Assumes nothing.
-use Prim.Native.Nat.{ℕ, zero, suc, _+_, _*_, _/_, _%_, _≤_, _<_}
+use Prim.Native.Nat.{ℕ, zero, suc, _+_, _*_, _/_, _%_, _<_}
 use mathlib.Core.Path.{_≡_, refl, sym, ap, _∙_}
-use mathlib.Core.Bool.{Bool, true, false, true≢false}
+use mathlib.Core.Bool.{true, false, true≢false}
 use mathlib.Core.List.{List, [], _∷_, map, List·Memᴰ, List·Memᴰ·head, List·Memᴰ·tail, Memᴰ·map, Memᴰ·of-map}
 use mathlib.Core.Logic.{⊎-elim}
 use lib.ListN.{length, getD}
@@ -11,9 +11,8 @@ use Rattle.sets.specs.Arguments.{argumentsOf, valueAt}
 use Rattle.sets.proofs.Gain.{local}
 use Rattle.table.specs.Words.{leftOf}
 use Rattle.table.specs.Same.{Has}
-use Rattle.tree.specs.Tree.{judgeNodes, Child}
 use Rattle.tree.specs.Moved.{Moved, Outer}
-use Rattle.tree.specs.Replace.{exchanged, part, formerly}
+use Rattle.tree.specs.Replace.{part, formerly}
 use Rattle.tree.specs.Replacement.{Replacement}
 use Rattle.tree.proofs.Exchange.{sound-some}
 use Rattle.tree.proofs.Moved.{outer-moved}
@@ -21,14 +20,13 @@ use Rattle.tree.proofs.Elements.{exchanged-other}
 use Rattle.tree.proofs.Replace.{replacement, replace-below}
 use Rattle.circles.specs.Graph.{_∈_}
 use Rattle.circles.specs.Ranked.{member}
-use Rattle.climb.specs.System.{Assignment, System}
+use Rattle.climb.specs.System.{Assignment}
 use Rattle.climb.specs.Restrict.{Same}
 use Rattle.climb.specs.Circuit.{circleAt}
 use Rattle.climb.specs.CircuitLaws.{Stays}
 use Rattle.climb.proofs.Lists.{either, member-map, map-member}
 use Rattle.climb.proofs.Finishing.{replaced-kept}
-use Rattle.wire.specs.Instances.{declared, placeOf, opAt, spot, named, argsAt, evalAt, system}
-use Rattle.wire.specs.Laws.{Words}
+use Rattle.wire.specs.Instances.{declared, opAt, spot, named, argsAt, evalAt, system}
 use Rattle.wire.specs.Replaced.{formerSlot, sownBy, Survives, Replacing, nodesAfter, ownsAfter, slotBefore, Unchanged, EquationsStay, Arranged, KeptReplaced}
 use Rattle.wire.proofs.Places.{Defined, here, parent, opIn, declared-is, is-declared, defined-node, defined-op, defined-args, defined-eval, place-defined, defined-has, used}
 use Rattle.wire.proofs.Lawful.{args-declared, args-closed, tree-lawful}

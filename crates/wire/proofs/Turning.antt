@@ -1,24 +1,24 @@
 -- Turn by turn, position by position, node by node: the wiring as it is made. Assumes nothing.
 use Prim.Native.Nat.{ℕ, zero, suc, _+_, _-_, _*_, _/_, _%_, _≤_, _<_, zero-le}
 use mathlib.Core.Path.{_≡_, refl, sym, ap, _∙_}
-use mathlib.Core.Bool.{Bool, true, false, cond, true≢false}
-use mathlib.Core.List.{List, [], _∷_, map}
+use mathlib.Core.Bool.{true, false, true≢false}
+use mathlib.Core.List.{List, map}
 use mathlib.Core.Logic.{⊎-elim}
 use lib.ListN.{length, getD, set}
 use lib.Seq.{getD-set-same, getD-set-other}
 use native.Mathlib.Decide.{decLt, ℕ-discrete}
 use native.Mathlib.Omega.{arith}
 use Rattle.sets.specs.Arguments.{argumentsOf}
-use Rattle.table.specs.Words.{productionCount, synthesized, inherited, leftOf, childCount, childOf, symbolAt, defined, ruleOf}
+use Rattle.table.specs.Words.{productionCount, synthesized, inherited, leftOf, childCount, childOf, defined, ruleOf}
 use Rattle.table.specs.Shape.{Shaped}
 use Rattle.table.specs.Same.{Has}
 use Rattle.table.proofs.Limits.{limits}
 use Rattle.tree.specs.Tree.{childAt, Child}
 use Rattle.tree.proofs.Symbols.{child-below, child-symbol}
 use Rattle.climb.proofs.Lists.{either}
-use Rattle.wire.specs.Instances.{declared, Place, placeOf, ruleAt, spot, named, argsAt}
+use Rattle.wire.specs.Instances.{declared, placeOf, ruleAt, spot, named, argsAt}
 use Rattle.wire.specs.Arrays.{firstAt, secondAt, leftAt, ruleIn}
-use Rattle.wire.specs.Turns.{Held, Room, Kids, firstIndex, setsOf, Wires, turn, Partly}
+use Rattle.wire.specs.Turns.{Held, Room, firstIndex, setsOf, Wires, turn, Partly}
 use Rattle.wire.proofs.Places.{Defined, here, parent, opIn, has-synthesized, has-inherited, declared-below, is-declared, place-defined, defined-has, defined-node, defined-rule, defined-args, number-in}
 
 -- a place of the table defines one instance of a node

@@ -1,8 +1,7 @@
 -- Slot by slot: those before x are marked, and from n on nothing has changed. Assumes nothing.
-use Prim.Native.Nat.{ℕ, _+_, _-_, _*_, _≤_, _<_}
-use mathlib.Core.Path.{_≡_, refl}
+use Prim.Native.Nat.{_-_, _≤_, _<_}
+use mathlib.Core.Path.{_≡_}
 use native.Mathlib.Omega.{arith}
-use lib.ListN.{length}
 use Rattle.wire.specs.Turns.{Room, Blank, Stay}
 use Rattle.wire.proofs.Rooms.{stay-refl, stay-set, stay-room, blank-none, blank-more}
 use Rattle.wire.proofs.blank.Statement.{statement}

@@ -1,12 +1,11 @@
 -- From child to child: the places so far are written, and where the loop stands is the place of the next child. Assumes nothing.
-use Prim.Native.Nat.{ℕ, _+_, _-_, _≤_, _<_}
-use mathlib.Core.Path.{_≡_, ap, _∙_}
+use Prim.Native.Nat.{_-_, _<_}
+use mathlib.Core.Path.{ap, _∙_}
 use native.Mathlib.Omega.{arith}
 use lib.ListN.{length, getD}
 use borrow.Author.Needs.{needs}
 use Rattle.table.specs.Words.{childCount}
 use Rattle.table.proofs.Limits.{limits}
-use Rattle.wire.specs.Turns.{Kids}
 use Rattle.wire.proofs.Places.{number-in}
 use Rattle.wire.proofs.Ending.{Kidding, kidding-none, kidding-few, kidding-in, kidding-more, kidding-all}
 use Rattle.wire.proofs.kids_of.Statement.{statement}

@@ -1,5 +1,4 @@
 -- Operations 2 to 8 read a, 4 to 7 read b. Assumes nothing.
-use mathlib.Core.Path.{_≡_, refl, _∙_}
 use borrow.Author.Needs.{needs}
 use Rattle.table.specs.Equations.{opNumber, aField, bField, usesA, usesB}
 use Rattle.wire.proofs.reads_in.Statement.{statement}

@@ -1,12 +1,12 @@
 -- Position by position: what the node defines at the earlier ones is wired. Assumes nothing.
-use Prim.Native.Nat.{ℕ, _+_, _-_, _*_, _≤_, _<_, zero-le}
+use Prim.Native.Nat.{_+_, _-_, _*_, _≤_, _<_, zero-le}
 use mathlib.Core.Path.{_≡_, refl, ap, _∙_}
 use native.Mathlib.Omega.{arith}
 use lib.ListN.{length, getD}
 use borrow.Author.Needs.{needs}
 use Rattle.table.specs.Words.{childCount}
 use Rattle.table.proofs.Limits.{limits}
-use Rattle.wire.specs.Turns.{Room, Kids, Partly, Stay}
+use Rattle.wire.specs.Turns.{Partly, Stay}
 use Rattle.wire.proofs.Places.{number-in}
 use Rattle.wire.proofs.Rooms.{stay-refl, stay-trans, stay-room}
 use Rattle.wire.proofs.Turning.{few-children, skip-rest}

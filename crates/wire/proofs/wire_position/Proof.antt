@@ -1,12 +1,12 @@
 -- Set by set of a position: the instances with turns before the next set's are wired, and from the last slot on nothing has changed. Assumes nothing.
 use Prim.Native.Nat.{ℕ, zero, suc, _+_, _-_, _*_, _≤_, _<_}
-use mathlib.Core.Path.{_≡_, refl, ap, sym, _∙_}
+use mathlib.Core.Path.{_≡_, refl, ap, _∙_}
 use mathlib.Core.List.{List}
 use native.Mathlib.Nat.{add-zero}
 use native.Mathlib.Omega.{arith}
 use lib.ListN.{length, getD}
 use borrow.Author.Needs.{needs}
-use Rattle.table.specs.Words.{leftOf, childCount, defined, ruleOf, headAt}
+use Rattle.table.specs.Words.{leftOf, defined, ruleOf, headAt}
 use Rattle.table.specs.Same.{Has}
 use Rattle.table.proofs.Limits.{limits}
 use Rattle.wire.specs.Instances.{spot}

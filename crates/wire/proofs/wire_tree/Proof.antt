@@ -1,9 +1,9 @@
 -- Node by node: what the earlier nodes define is wired, what is not declared is marked, and nothing behind the slots has changed. Assumes nothing.
-use Prim.Native.Nat.{ℕ, _+_, _-_, _*_, _≤_, _<_}
-use mathlib.Core.Path.{_≡_, refl, _∙_}
+use Prim.Native.Nat.{_-_, _*_, _≤_}
+use mathlib.Core.Path.{_≡_}
 use native.Mathlib.Omega.{arith}
 use lib.ListN.{length}
-use Rattle.wire.specs.Turns.{Room, Partly, Stay}
+use Rattle.wire.specs.Turns.{Partly, Stay}
 use Rattle.wire.proofs.Rooms.{stay-refl, stay-trans, stay-room, blank-partly}
 use Rattle.wire.proofs.Ending.{wired-of}
 use Rattle.wire.proofs.wire_tree.Statement.{statement}
