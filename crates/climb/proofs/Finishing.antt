@@ -9,12 +9,12 @@ use native.Mathlib.Omega.{arith}
 use lib.ListN.{length}
 use Rattle.circles.specs.Graph.{_∈_}
 use Rattle.circles.specs.Ranked.{member, upFrom}
-use Rattle.climb.specs.System.{Assignment, System, Lawful, Least}
-use Rattle.climb.specs.Climb.{stage, Closed, roundsOf}
+use Rattle.climb.specs.System.{Assignment, System, Lawful}
+use Rattle.climb.specs.Climb.{stage}
 use Rattle.climb.specs.Inside.{Small, Agree}
 use Rattle.climb.specs.Ordered.{And, Next}
-use Rattle.climb.specs.Circuit.{sumTo, circleAt, dueOf, afterOf, workedOf, roundsAt, circlesTo, evaluationsTo, Ranked, Kept}
-use Rattle.climb.specs.CircuitLaws.{FinalLeast, Final, AllFinal, LoadKept, Stays, ReplacedKept, LoadMost, Limits, AllLimits}
+use Rattle.climb.specs.Circuit.{sumTo, circleAt, dueOf, afterOf, workedOf, roundsAt, circlesTo, roundsTo, evaluationsTo, Ranked, Kept}
+use Rattle.climb.specs.CircuitLaws.{LawfulCircles, FinalLeast, AllFinal, LoadKept, ReplacedKept, LoadMost, Limits, AllLimits}
 use Rattle.climb.proofs.Lists.{either, member-in, in-upFrom}
 use Rattle.climb.proofs.Systems.{gains-inside, lawful-inside, least-unique}
 use Rattle.climb.proofs.Stages.{stage-out}
@@ -23,6 +23,9 @@ use Rattle.climb.proofs.Solving.{Solved, solved-none, solved-next, solv
 use Rattle.climb.proofs.Restriction.{renamed}
 use Rattle.climb.proofs.Sums.{sum-le, sum-mono, sum-times, sum-one, cond-le}
 use Rattle.climb.proofs.Working.{due-means, due-agree, after-worked, after-left, after-later, untouched, climbs-at, adds}
+
+pub lawful-circles : (S : System) → Lawful S → (R : List (List ℕ)) → LawfulCircles S R
+lawful-circles S L R i = lawful-inside S L (member (circleAt R i))
 
 -- in a circle of rank below n
 abbrev pub Below : List (List ℕ) → ℕ → ℕ → Type 0
@@ -75,7 +78,7 @@ module _ (S : System) (R : List (List ℕ)) (r : Ranked S R) where
 
           worked : Solved S (Below R n) (after n) → workedOf S R sown b n ≡ true → Solved S (And (Below R n) C) (after (suc n))
           worked s h = rw (after-worked S R sown b n h)
-              (solved-next S L (Below R n) (after n) C (next n) s (roundsAt S R sown b n) (climbs-at S R sown b L small n .closed))
+              (solved-next S L (Below R n) (after n) C (next n) s (roundsAt S R sown b n) (climbs-at S R sown b (lawful-circles S L R) small n .closed))
 
           left : Solved S (Below R n) (after n) → workedOf S R sown b n ≡ false → Solved S (And (Below R n) C) (after (suc n))
           left s h =
@@ -91,9 +94,9 @@ final-least S L R r sown b small k =
 
 pub all-final : AllFinal
 unfolding workedOf roundsAt
-all-final S L R r sown b n l = record {
+all-final S R L r sown b n l = record {
   worked = sym (due-agree S sown b (circleAt R n) (afterOf S R sown b (length R)) (afterOf S R sown b n) (agree-final S R r sown b n l));
-  rounds = sym (agree-alike S (circleAt R n) (gains-inside S (L .gaining) (member (circleAt R n))) (afterOf S R sown b (length R)) (afterOf S R sown b n)
+  rounds = sym (agree-alike S (circleAt R n) (L n .gaining) (afterOf S R sown b (length R)) (afterOf S R sown b n)
       (agree-final S R r sown b n l) .rounds);
 }
 
@@ -137,14 +140,14 @@ load-most S L R r sown b b′ small small′ k =
         (final-least S L R r sown b small k) (final-least S L R r (λ x. true) b′ small′ (load-kept S R b′))
 
     same-rounds : (j : ℕ) → j ≤ length R → roundsAt S R sown b j ≡ roundsAt S R (λ x. true) b′ j
-    same-rounds j l = all-final S L R r sown b j l .rounds
+    same-rounds j l = all-final S R (lawful-circles S L R) r sown b j l .rounds
         ∙ agree-alike S (circleAt R j) (gains-inside S (L .gaining) (member (circleAt R j))) (afterOf S R sown b (length R)) (afterOf S R (λ x. true) b′ (length R))
         (λ x m y a o. same-final y (L .closed x (r .declared j x m) y a)) .rounds
-        ∙ sym (all-final S L R r (λ x. true) b′ j l .rounds)
+        ∙ sym (all-final S R (lawful-circles S L R) r (λ x. true) b′ j l .rounds)
 
 -- ---- the limits
 
-module _ (S : System) (L : Lawful S) (R : List (List ℕ)) (r : Ranked S R) (sown : ℕ → Bool) (b : Assignment) (small : Small b) where
+module _ (S : System) (R : List (List ℕ)) (L : LawfulCircles S R) (r : Ranked S R) (sown : ℕ → Bool) (b : Assignment) (small : Small b) where
   size-le : (j : ℕ) → j < length R → length (circleAt R j) ≤ 4096
   unfolding sumTo
   size-le j l =
@@ -174,12 +177,26 @@ module _ (S : System) (L : Lawful S) (R : List (List ℕ)) (r : Ranked S R) (sow
       let z = evaluations-le in
       omega arith
 
-  circles-le : circlesTo S R sown b (length R) ≤ length R
-  circles-le = rw (sum-one (length R)) at
-      (sum-le (λ j. cond (workedOf S R sown b j) 1 0) (λ j. 1) (length R) (λ j l. cond-le (workedOf S R sown b j) 1 1 (le-refl 1)))
+  circles-le : (n : ℕ) → circlesTo S R sown b n ≤ n
+  circles-le n = rw (sum-one n) at
+      (sum-le (λ j. cond (workedOf S R sown b j) 1 0) (λ j. 1) n (λ j l. cond-le (workedOf S R sown b j) 1 1 (le-refl 1)))
+
+  made-le : roundsTo S R sown b (length R) ≤ 1072697340
+  made-le =
+      let h : roundsTo S R sown b (length R) ≤ sumTo (λ j. 1 * 262145) (length R) =
+      sum-le (λ j. cond (workedOf S R sown b j) (roundsAt S R sown b j) 0) (λ j. 1 * 262145) (length R)
+      (λ j l. cond-le (workedOf S R sown b j) (roundsAt S R sown b j) (1 * 262145) (rounds-le j l)) in
+      omega (arith, h, sum-times (λ j. 1) 262145 (length R), sum-one (length R), r .count)
 
   limits : Limits S R sown b
-  limits = record { circles = le-trans circles-le (r .count); rounds = rounds-le; evaluations = evaluations-le; midst = evaluations-in }
+  limits = record {
+    circles = le-trans (circles-le (length R)) (r .count);
+    rounds = rounds-le;
+    evaluations = evaluations-le;
+    made = made-le;
+    circle = λ i l. omega (arith, circles-le i, r .count);
+    midst = evaluations-in;
+  }
 
 pub all-limits : AllLimits
-all-limits S L R r sown b small = limits S L R r sown b small
+all-limits S R L r sown b small = limits S R L r sown b small

@@ -9,3 +9,4 @@ pub mod Working
 pub mod Finishing
 pub mod Storing
 pub mod Places
+pub mod Wirings

@@ -3,7 +3,7 @@ use mathlib.Core.Path.{_≡_, refl, sym, ap, _∙_}
 use mathlib.Core.Bool.{Bool, true, false, not, true≢false}
 use mathlib.Core.Logic.{_⊎_, inl, inr, ⊎-elim}
 use mathlib.Core.List.{List, [], _∷_, map, List·Memᴰ·head}
-use Prim.Native.Nat.{ℕ, zero, suc, _<_}
+use Prim.Native.Nat.{ℕ, zero, suc}
 use lib.Bits.{bitAnd}
 use Rattle.sets.specs.Members.{_⊑_}
 use Rattle.sets.proofs.Order.{sub-refl, sub-trans, sub-of-eq, sub-antisym, sub-and, and-left, and-right}
@@ -11,9 +11,9 @@ use Rattle.circles.specs.Graph.{_∈_}
 use Rattle.circles.specs.Ranked.{member, loneOf}
 use Rattle.climb.specs.System.{Assignment, System, graphOf, Lawful, Least}
 use Rattle.climb.specs.Climb.{stage, Closed, roundsOf}
-use Rattle.climb.specs.Inside.{LawfulIn, Small}
 use Rattle.climb.specs.Laws.{Shuts, Takes}
-use Rattle.climb.specs.Restrict.{Restricted, ClimbsAgain, Same, Outside, Renamed, Whole, RenamedRounds, RenamedWhole}
+use Rattle.climb.specs.Ordered.{climbed}
+use Rattle.climb.specs.Restrict.{Restricted, ClimbsAgain, Same, Outside, Renamed, RenamedRounds, RenamedClimb, RenamedWhole}
 use Rattle.climb.proofs.Lists.{either, member-of, member-in, member-map, map-member, only-member}
 use Rattle.climb.proofs.Systems.{lawful-inside}
 use Rattle.climb.proofs.Stages.{stage-in, stage-out, stage-below}
@@ -89,6 +89,13 @@ renamed-rounds S S′ C₀ C φ L L′ w v u sv su kept = takes-unique S C₀ v 
 
     moved : Takes S C₀ v (roundsOf S′ C u)
     moved = record { some = t .some; last = λ k e. to k (t .last k e); first = λ k l s. t .first k l (back k s) }
+
+pub renamed-climb : RenamedClimb
+unfolding climbed
+renamed-climb S S′ C₀ C φ L L′ w v u sv su kept l dec x h =
+    let I = lawful-inside S L (member C₀) in
+    let e = renamed-rounds S S′ C₀ C φ I L′ w v u sv su kept in
+    rw e (renamed S S′ L (member C₀) (member C) φ (w .same) v u kept l dec (roundsOf S C₀ v) (climbs S C₀ v I sv .closed) .1 x h)
 
 -- ---- whole circles
 

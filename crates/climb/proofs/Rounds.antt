@@ -1,20 +1,20 @@
 -- The number of rounds that a climb takes: there is one, `roundsOf` is it, and it is small. Assumes nothing.
 use mathlib.Core.Path.{_≡_, refl, sym, ap, _∙_, fun-ext}
-use mathlib.Core.Bool.{Bool, true, false, cond, true≢false}
-use mathlib.Core.Logic.{_⊎_, inl, inr, ⊎-elim}
+use mathlib.Core.Bool.{Bool, true, false, cond, _||_, or-true, true≢false}
+use mathlib.Core.Logic.{inl, inr, ⊎-elim}
 use mathlib.Core.List.{List, [], _∷_}
 use Prim.Native.Nat.{ℕ, zero, suc, _+_, _-_, _*_, _≤_, _<_, zero-le}
 use native.Mathlib.Nat.{eq-or-lt-of-le, le-refl, le-trans, sub-add-cancel}
 use native.Mathlib.Omega.{arith}
 use lib.Dec.{eqb}
-use borrow.Author.Tests.{eqb-true, eq-eqb, not-true}
+use borrow.Author.Tests.{eqb-true, eq-eqb, ne-eqb, not-true}
 use lib.ListN.{length}
 use Rattle.circles.specs.Graph.{_∈_}
-use Rattle.circles.specs.Ranked.{member, allOf, loneOf}
+use Rattle.circles.specs.Ranked.{member, loneOf}
 use Rattle.climb.specs.System.{Assignment, System, graphOf, weight}
 use Rattle.climb.specs.Climb.{stage, Closed, stillOf, leastFrom, roundsOf}
-use Rattle.climb.specs.Inside.{GainingIn, LawfulIn, Small, Agree}
-use Rattle.climb.specs.Laws.{StillMeans, Shuts, Takes, TakesUnique, Climbs, AllClimb, Alike, AgreeAlike, Lone, LoneOnce}
+use Rattle.climb.specs.Inside.{LawfulIn, Small}
+use Rattle.climb.specs.Laws.{StillMeans, Shuts, TakesUnique, TakesLast, Climbs, AllClimb, AgreeAlike, LoneOnce}
 use Rattle.climb.proofs.Lists.{either, le-or-lt, member-in, member-of, only-member, all-is, is-all, all-cong, Found, least-from}
 use Rattle.climb.proofs.Systems.{local-in, weight-cong, weight-le}
 use Rattle.climb.proofs.Stages.{stage-out, stage-in, stage-small, next-closed, closed-next, closed-later, closes}
@@ -77,6 +77,19 @@ takes-unique S C v (suc m) zero a b = absurd (omega (arith, b .some))
 takes-unique S C v (suc m) (suc n) a b = ⊎-elim
     (λ (l : m ≤ n). ⊎-elim (λ (e : m ≡ n). ap suc e) (λ (k : m < n). absurd (b .first m (omega arith) (a .last m refl))) (eq-or-lt-of-le l))
     (λ (l : n < m). absurd (a .first n (omega arith) (b .last n refl))) (le-or-lt m n)
+
+pub takes-last : TakesLast
+takes-last S C v m t k l = ⊎-elim
+    (λ (e : suc k ≡ m). shut (t .last k e) ∙ sym (eq-eqb (suc k) m e))
+    (λ (n : suc k < m). not-shut (t .first k n) ∙ sym (ne-eqb (suc k) m (λ e. omega arith))) (eq-or-lt-of-le l)
+  where
+    shut : Shuts S C v k → (loneOf (graphOf S) C || stillOf S C v k) ≡ true
+    shut s = ⊎-elim (λ (h : loneOf (graphOf S) C ≡ true). rw h) (λ c. rw (still-means S C v k .still c) (or-true (loneOf (graphOf S) C))) s
+
+    not-shut : (Shuts S C v k → ⊥) → (loneOf (graphOf S) C || stillOf S C v k) ≡ false
+    not-shut n = ⊎-elim (λ (h : loneOf (graphOf S) C ≡ true). absurd (n (inl h)))
+        (λ (h : loneOf (graphOf S) C ≡ false). ⊎-elim (λ (s : stillOf S C v k ≡ true). absurd (n (inr (still-means S C v k .closed s))))
+        (λ (s : stillOf S C v k ≡ false). rw (h, s)) (either (stillOf S C v k))) (either (loneOf (graphOf S) C))
 
 pub climbs : AllClimb
 unfolding roundsOf

@@ -1,7 +1,7 @@
 -- Circle by circle is least. Assumes nothing.
-use mathlib.Core.Path.{_≡_, refl, sym, _∙_}
-use mathlib.Core.Bool.{Bool, true, false, true≢false}
-use mathlib.Core.Logic.{_⊎_, inl, inr, ⊎-elim}
+use mathlib.Core.Path.{_≡_, sym, _∙_}
+use mathlib.Core.Bool.{Bool, true, true≢false}
+use mathlib.Core.Logic.{inl, inr, ⊎-elim}
 use mathlib.Core.List.{List, [], _∷_}
 use Prim.Native.Nat.{ℕ, zero-le}
 use native.Mathlib.Nat.{zero-add}
@@ -14,7 +14,7 @@ use Rattle.climb.specs.System.{Assignment, System, Lawful, Least}
 use Rattle.climb.specs.Climb.{stage, Closed, roundsOf}
 use Rattle.climb.specs.Inside.{Small}
 use Rattle.climb.specs.Ordered.{climbed, climbedAll, And, Next, Ordered, Covered, InOrder, InOrderLeast, bottom, ThereIsLeast, LeastClosed}
-use Rattle.climb.proofs.Lists.{either, keep-is, keep-in, in-upFrom}
+use Rattle.climb.proofs.Lists.{keep-is, keep-in, in-upFrom}
 use Rattle.climb.proofs.Systems.{local, lawful-inside}
 use Rattle.climb.proofs.Stages.{stage-out, stage-small, stage-below}
 use Rattle.climb.proofs.Rounds.{climbs}

@@ -1,9 +1,9 @@
 -- The stages of a climb grow, and one that a round leaves as it is is the end. Assumes nothing.
 use mathlib.Core.Path.{_≡_, sym, _∙_}
-use mathlib.Core.Bool.{Bool, true, false, cond}
+use mathlib.Core.Bool.{Bool, true, false}
 use mathlib.Core.Logic.{⊎-elim}
 use mathlib.Core.List.{List}
-use Prim.Native.Nat.{ℕ, zero, suc, _+_, _*_, _≤_, _<_, _^_, zero-le}
+use Prim.Native.Nat.{ℕ, zero, suc, _+_, _*_, _≤_, _<_, zero-le}
 use native.Mathlib.Nat.{eq-or-lt-of-le, zero-add, suc-add}
 use native.Mathlib.Omega.{arith}
 use lib.Dec.{lit<}
@@ -11,9 +11,9 @@ use lib.ListN.{length}
 use Rattle.sets.specs.Members.{_⊑_}
 use Rattle.sets.proofs.Order.{sub-refl, sub-trans, sub-zero, sub-of-eq, sub-antisym}
 use Rattle.circles.specs.Graph.{_∈_}
-use Rattle.climb.specs.System.{Assignment, System, Gaining, weight}
+use Rattle.climb.specs.System.{Assignment, System, weight}
 use Rattle.climb.specs.Climb.{patch, stage, Closed}
-use Rattle.climb.specs.Inside.{GainingIn, SmallIn, LawfulIn, Small, Agree, Above, ClosedOn}
+use Rattle.climb.specs.Inside.{GainingIn, SmallIn, LawfulIn, Small, Agree, ClosedOn}
 use Rattle.climb.specs.Laws.{StagesGrow, StageIsRound, ClosedStays, ClosedEnds, ClosedBelow}
 use Rattle.climb.proofs.Lists.{either}
 use Rattle.climb.proofs.Systems.{gains-inside, local-in, cond-sub, cond-lt, weight-mono, weight-eq, weight-cong, weight-le}

@@ -3,7 +3,7 @@ use mathlib.Core.Path.{_≡_, refl, sym}
 use mathlib.Core.Bool.{Bool, true, false, cond}
 use mathlib.Core.Logic.{⊎-elim, _≢_}
 use mathlib.Core.List.{List, [], _∷_, List·Memᴰ·head, List·Memᴰ·tail}
-use Prim.Native.Nat.{ℕ, _+_, _*_, _^_, _≤_, _<_, zero-le}
+use Prim.Native.Nat.{ℕ, _*_, _≤_, _<_, zero-le}
 use native.Mathlib.Nat.{eq-or-lt-of-le}
 use native.Mathlib.Omega.{arith}
 use lib.ListN.{length}
@@ -11,7 +11,7 @@ use Rattle.sets.specs.Members.{_⊑_}
 use Rattle.sets.proofs.Order.{sub-antisym, sub-of-eq}
 use Rattle.sets.proofs.Growth.{counted, ones-eq}
 use Rattle.circles.specs.Graph.{_∈_}
-use Rattle.climb.specs.System.{Assignment, System, Gaining, Lawful, Least, weight}
+use Rattle.climb.specs.System.{Assignment, System, Gaining, weight}
 use Rattle.climb.specs.Inside.{GainingIn, Small}
 use Rattle.climb.specs.Laws.{LeastUnique, GainsInside, LawfulInside}
 

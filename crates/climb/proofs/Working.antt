@@ -11,14 +11,13 @@ use borrow.Author.Tests.{eqb-true, eq-eqb, not-false}
 use lib.ListN.{length}
 use Rattle.circles.specs.Graph.{_∈_}
 use Rattle.circles.specs.Ranked.{member, anyOf}
-use Rattle.climb.specs.System.{Assignment, System, Lawful}
+use Rattle.climb.specs.System.{Assignment, System}
 use Rattle.climb.specs.Climb.{stage}
 use Rattle.climb.specs.Inside.{Small, Agree}
 use Rattle.climb.specs.Laws.{Climbs}
-use Rattle.climb.specs.Circuit.{sumTo, circleAt, dueOf, afterOf, workedOf, roundsAt, circlesTo, roundsTo, evaluationsTo}
-use Rattle.climb.specs.CircuitLaws.{DueMeans, Adds, Passed, IdlePassed}
+use Rattle.climb.specs.Circuit.{sumTo, circleAt, dueOf, afterOf, workedOf, roundsAt}
+use Rattle.climb.specs.CircuitLaws.{LawfulCircles, DueMeans, Adds, Passed, IdlePassed}
 use Rattle.climb.proofs.Lists.{either, or-false-is, member-in, member-of, any-none, none-any, any-cong}
-use Rattle.climb.proofs.Systems.{lawful-inside}
 use Rattle.climb.proofs.Stages.{stage-out, stage-small}
 use Rattle.climb.proofs.Rounds.{climbs}
 use Rattle.climb.proofs.Sums.{sum-idle}
@@ -85,16 +84,16 @@ module _ (S : System) (R : List (List ℕ)) (sown : ℕ → Bool) (b : Assignmen
   untouched zero x h = refl
   untouched (suc n) x h = after-out n x (h n (le-refl (suc n))) ∙ untouched n x (λ k l. h k (omega arith))
 
-  pub after-small : Lawful S → Small b → (n : ℕ) → Small (afterOf S R sown b n)
+  pub after-small : LawfulCircles S R → Small b → (n : ℕ) → Small (afterOf S R sown b n)
   unfolding afterOf
   after-small L s zero x = s x
   after-small L s (suc n) x = ⊎-elim
       (λ (h : workedOf S R sown b n ≡ true). rw (after-worked n h)
-      (stage-small S (member (circleAt R n)) (after n) (lawful-inside S L (member (circleAt R n)) .small) (after-small L s n) (roundsAt S R sown b n) x))
+      (stage-small S (member (circleAt R n)) (after n) (L n .small) (after-small L s n) (roundsAt S R sown b n) x))
       (λ (h : workedOf S R sown b n ≡ false). rw (after-left n h) (after-small L s n x)) (either (workedOf S R sown b n))
 
-  pub climbs-at : Lawful S → Small b → (n : ℕ) → Climbs S (circleAt R n) (afterOf S R sown b n)
-  climbs-at L s n = climbs S (circleAt R n) (after n) (lawful-inside S L (member (circleAt R n))) (after-small L s n)
+  pub climbs-at : LawfulCircles S R → Small b → (n : ℕ) → Climbs S (circleAt R n) (afterOf S R sown b n)
+  climbs-at L s n = climbs S (circleAt R n) (after n) (L n) (after-small L s n)
 
   -- ---- the circles from i to i + m are not due: they are passed
 

@@ -64,7 +64,7 @@ pub record Ranked (S : System) (R : List (List ℕ)) : Type 0 where
   pub count : length R ≤ 4092
   pub total : sumTo (λ i. length (circleAt R i)) (length R) ≤ 4096
 
--- "If its outside arguments kept their before values, then its old values are what its climb from empty would give": a circle without a sown
+-- "If its outside arguments kept their before values, then [..] its old values are what its climb from empty would give": a circle without a sown
 -- instance, whose outside arguments are as before, closes at its before values
 pub record Kept (S : System) (R : List (List ℕ)) (sown : ℕ → Bool) (b : Assignment) : Type 0 where
   pub kept : (i : ℕ) (u : Assignment) → ((x : ℕ) → member (circleAt R i) x ≡ true → sown x ≡ false) → Agree S (member (circleAt R i)) u b

@@ -8,9 +8,13 @@ use Rattle.circles.specs.Graph.{_∈_}
 use Rattle.circles.specs.Ranked.{member}
 use Rattle.climb.specs.System.{Assignment, System, Lawful, Least}
 use Rattle.climb.specs.Climb.{roundsOf}
-use Rattle.climb.specs.Inside.{Small, Agree}
+use Rattle.climb.specs.Inside.{LawfulIn, Small, Agree}
 use Rattle.climb.specs.Restrict.{Same}
 use Rattle.climb.specs.Circuit.{circleAt, dueOf, afterOf, workedOf, roundsAt, circlesTo, roundsTo, evaluationsTo, Ranked, Kept}
+
+-- what is asked inside each circle, where nothing is asked across them
+abbrev pub LawfulCircles : System → List (List ℕ) → Type 0
+LawfulCircles S R = (i : ℕ) → LawfulIn S (member (circleAt R i))
 
 -- the due test as it is meant: not due is a circle with nothing sown, whose outside arguments have their before values
 pub record DueMeans (S : System) (sown : ℕ → Bool) (b v : Assignment) (C : List ℕ) : Type 0 where
@@ -29,11 +33,11 @@ pub record Final (S : System) (R : List (List ℕ)) (sown : ℕ → Bool) (b : A
   pub rounds : roundsAt S R sown b n ≡ roundsOf S (circleAt R n) (afterOf S R sown b (length R))
 
 abbrev pub AllFinal : Type 0
-AllFinal = (S : System) → Lawful S → (R : List (List ℕ)) → Ranked S R → (sown : ℕ → Bool) (b : Assignment) → (n : ℕ) → n ≤ length R → Final S R sown b n
+AllFinal = (S : System) (R : List (List ℕ)) → LawfulCircles S R → Ranked S R → (sown : ℕ → Bool) (b : Assignment) → (n : ℕ) → n ≤ length R → Final S R sown b n
 
 -- ---- a load, and a replacement in a finished tree
 
--- "Sown instances: .. in a load, all.": nothing is asked of the before values
+-- "Sown instances: [..] in a load, all.": nothing is asked of the before values
 abbrev pub LoadKept : Type 0
 LoadKept = (S : System) (R : List (List ℕ)) (b : Assignment) → Kept S R (λ x. true) b
 
@@ -62,12 +66,15 @@ pub record Limits (S : System) (R : List (List ℕ)) (sown : ℕ → Bool) (b : 
   pub circles : circlesTo S R sown b (length R) ≤ 4092
   pub rounds : (i : ℕ) → i < length R → roundsAt S R sown b i ≤ 262145
   pub evaluations : evaluationsTo S R sown b (length R) ≤ 1073745920
-  -- nor does it in the midst of a climb, when k rounds of circle i are made and one more is to be
+  -- 4,092 circles of 262,145 rounds
+  pub made : roundsTo S R sown b (length R) ≤ 1072697340
+  -- nor does it in the midst, when circle i is yet to close, k of its rounds are made and one more is to be
+  pub circle : (i : ℕ) → i < length R → suc (circlesTo S R sown b i) ≤ 4092
   pub midst : (i k : ℕ) → i < length R → workedOf S R sown b i ≡ true → k < roundsAt S R sown b i
       → evaluationsTo S R sown b i + length (circleAt R i) * k + length (circleAt R i) ≤ 1073745920
 
 abbrev pub AllLimits : Type 0
-AllLimits = (S : System) → Lawful S → (R : List (List ℕ)) → Ranked S R → (sown : ℕ → Bool) (b : Assignment) → Small b → Limits S R sown b
+AllLimits = (S : System) (R : List (List ℕ)) → LawfulCircles S R → Ranked S R → (sown : ℕ → Bool) (b : Assignment) → Small b → Limits S R sown b
 
 -- ---- how the sums go on
 

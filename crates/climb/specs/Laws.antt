@@ -1,9 +1,10 @@
 -- What is promised of a climb; the proofs are in proofs/. Assumes nothing.
 use mathlib.Core.Path.{_≡_}
-use mathlib.Core.Bool.{Bool, true}
+use mathlib.Core.Bool.{Bool, true, _||_}
 use mathlib.Core.Logic.{_⊎_}
 use mathlib.Core.List.{List}
 use Prim.Native.Nat.{ℕ, suc, _+_, _*_, _≤_, _<_}
+use lib.Dec.{eqb}
 use lib.ListN.{length}
 use Rattle.sets.specs.Members.{_⊑_}
 use Rattle.circles.specs.Ranked.{member, loneOf}
@@ -70,6 +71,10 @@ pub record Takes (S : System) (C : List ℕ) (v : Assignment) (m : ℕ) : Type 0
 -- no second number fits
 abbrev pub TakesUnique : Type 0
 TakesUnique = (S : System) (C : List ℕ) (v : Assignment) (m n : ℕ) → Takes S C v m → Takes S C v n → m ≡ n
+
+-- as it computes: of the m rounds the last closes C, and it alone
+abbrev pub TakesLast : Type 0
+TakesLast = (S : System) (C : List ℕ) (v : Assignment) (m : ℕ) → Takes S C v m → (k : ℕ) → k < m → (loneOf (graphOf S) C || stillOf S C v k) ≡ eqb (suc k) m
 
 -- "A climb closes within one more round than the members it ends with, counted set by set"
 pub record Climbs (S : System) (C : List ℕ) (v : Assignment) : Type 0 where

@@ -8,3 +8,4 @@ pub mod Circuit
 pub mod CircuitLaws
 pub mod Memory
 pub mod Wired
+pub mod Example

@@ -9,6 +9,7 @@ use Rattle.circles.specs.Ranked.{member, loneOf}
 use Rattle.climb.specs.System.{Assignment, System, graphOf, Lawful, Least}
 use Rattle.climb.specs.Climb.{stage, Closed, roundsOf}
 use Rattle.climb.specs.Inside.{LawfulIn, Small, ClosedOn}
+use Rattle.climb.specs.Ordered.{climbed}
 
 -- "If v is least, then on any set D of instances v is the least solution of D's equations with the outside held at v"
 abbrev pub Restricted : Type 0
@@ -31,7 +32,7 @@ pub record Same (S S′ : System) (C₀ C : ℕ → Bool) (φ : ℕ → ℕ) : T
 abbrev pub Outside : System → (ℕ → Bool) → (ℕ → ℕ) → Assignment → Assignment → Type 0
 Outside S′ C φ v u = (x : ℕ) → C x ≡ true → (y : ℕ) → y ∈ S′ .args x → C y ≡ false → u y ≡ v (φ y)
 
--- "If its outside arguments kept their before values, then its old values are what its climb from empty would give."
+-- "If its outside arguments kept their before values, then [..] its old values are what its climb from empty would give."
 abbrev pub Renamed : Type 0
 Renamed = (S S′ : System) → Lawful S → (C₀ C : ℕ → Bool) (φ : ℕ → ℕ) → Same S S′ C₀ C φ → (v u : Assignment) → Outside S′ C φ v u
     → Least S v → ((z : ℕ) → C₀ z ≡ true → S .declared z ≡ true) → (k : ℕ) → Closed S C₀ v k
@@ -47,6 +48,12 @@ pub record Whole (S S′ : System) (C₀ C : List ℕ) (φ : ℕ → ℕ) : Type
 abbrev pub RenamedRounds : Type 0
 RenamedRounds = (S S′ : System) (C₀ C : List ℕ) (φ : ℕ → ℕ) → LawfulIn S (member C₀) → LawfulIn S′ (member C) → Whole S S′ C₀ C φ
     → (v u : Assignment) → Small v → Small u → Outside S′ (member C) φ v u → roundsOf S′ C u ≡ roundsOf S C₀ v
+
+-- and end, from empty, at the old values
+abbrev pub RenamedClimb : Type 0
+RenamedClimb = (S S′ : System) (C₀ C : List ℕ) (φ : ℕ → ℕ) → Lawful S → LawfulIn S′ (member C) → Whole S S′ C₀ C φ
+    → (v u : Assignment) → Small v → Small u → Outside S′ (member C) φ v u → Least S v → ((z : ℕ) → member C₀ z ≡ true → S .declared z ≡ true)
+    → (x : ℕ) → member C x ≡ true → climbed S′ C u x ≡ v (φ x)
 
 -- members renamed in their order, with their arguments, make such a pair
 abbrev pub RenamedWhole : Type 0

@@ -1,21 +1,24 @@
 -- The system that the wiring holds: for each slot its two arguments, the node whose own set its equation may read, and its rule in the table.
 -- Assumes nothing.
 use mathlib.Core.Path.{_≡_}
-use mathlib.Core.Bool.{Bool, true, cond}
+use mathlib.Core.Bool.{true, cond}
 use mathlib.Core.List.{List}
 use Prim.Native.Nat.{ℕ, _≤_, _<_}
 use lib.Dec.{ltb}
 use lib.ListN.{length, getD}
 use Rattle.sets.specs.Operations.{valueOf}
 use Rattle.table.specs.Equations.{equationAt}
+use Rattle.circles.specs.Graph.{_∈_}
 use Rattle.circles.specs.Arrays as arrays
-use Rattle.climb.specs.System.{Assignment, System}
+use Rattle.climb.specs.System.{Assignment, System, graphOf, Lawful}
+use Rattle.climb.specs.Inside.{Small}
+use Rattle.climb.specs.Memory.{at}
 
 -- the set of an argument; a number past the slots is none, and gives the empty set
 abbrev pub readOf : ℕ → Assignment → ℕ → ℕ
 readOf n v y = cond (ltb y n) (v y) 0
 
--- the value of the equation of x: t are the table's words, owns the nodes' own sets, left[x] is the left node of the equation
+-- "An equation holds one operation with its own arguments a, b and constant c": the value of the equation of x; t are the table's words, owns the nodes' own sets, left[x] is the left node of the equation
 unfoldable pub evalOf : ℕ → List ℕ → List ℕ → List ℕ → List ℕ → List ℕ → List ℕ → Assignment → ℕ → ℕ
 evalOf n t owns a b left rule v x =
     valueOf (equationAt t (getD rule x 0) .op) (getD owns (getD left x 0) 0) (readOf n v (getD a x 65534)) (readOf n v (getD b x 65534))
@@ -61,3 +64,15 @@ pub record Wiring (owns a b left rule : List ℕ) (n : ℕ) : Type 0 where
   pub rules : n ≤ length rule
   pub ruled : (x : ℕ) → arrays.graphOf n a b .declared x ≡ true → getD rule x 0 < 1280
   pub owned : (x : ℕ) → arrays.graphOf n a b .declared x ≡ true → getD left x 0 < length owns
+
+-- ---- what is promised of the wired system
+
+-- its graph is the one that the arrays hold
+abbrev pub WiredGraph : Type 0
+WiredGraph = (n : ℕ) (t owns a b left rule : List ℕ) → graphOf (wired n t owns a b left rule) ≡ arrays.graphOf n a b
+
+-- it is lawful: words and own sets have 64 bits, and what a declared slot reads is declared
+abbrev pub WiredLawful : Type 0
+WiredLawful = (n : ℕ) (t owns a b left rule : List ℕ) → Small (at t) → Small (at owns)
+    → ((x : ℕ) → arrays.graphOf n a b .declared x ≡ true → (y : ℕ) → y ∈ arrays.graphOf n a b .args x → arrays.graphOf n a b .declared y ≡ true)
+    → Lawful (wired n t owns a b left rule)

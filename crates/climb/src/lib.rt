@@ -154,11 +154,11 @@ pub fn empty_circle<'a>(members: &'a [u16], start: usize, end: usize, sets: &mut
     requires { ⌜ Span (now members) (length (now sets)) start end ⌝ }
     ensures { λ _. ⌜ now (sets .exit) ≡ emptyOn (slice start end (now (members .entry))) (now (sets .entry)) ⌝ }
 {
-    let mut p = start;
-    while p < end {
-        let x = wide(members[p]);
+    let mut place = start;
+    while place < end {
+        let x = wide(members[place]);
         sets[x] = 0;
-        p += 1;
+        place += 1;
     }
 }
 

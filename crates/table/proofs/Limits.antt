@@ -66,7 +66,8 @@ arguments-declared t j p q k h =
     reads (λ (x : Argument). occurs t p (x .position) (x .index) ≡ true) (argument (aField w)) (argument (bField w)) (constantAt t (ruleOf p q k)) (opNumber w) (n .a) (n .b)
 
 -- what an index says of its symbol: below 4 and synthesized, or from 4 on and inherited
-set-by : (t : List ℕ) (s i : ℕ) (b : Bool) → ltb i 4 ≡ b → cond b (ltb i (synthesized t s)) (ltb (i - 4) (inherited t s)) ≡ true → ((i < 4) × (i < synthesized t s)) ⊎ ((4 ≤ i) × (i - 4 < inherited t s))
+set-by : (t : List ℕ) (s i : ℕ) (b : Bool) → ltb i 4 ≡ b → cond b (ltb i (synthesized t s)) (ltb (i - 4) (inherited t s)) ≡ true
+    → ((i < 4) × (i < synthesized t s)) ⊎ ((4 ≤ i) × (i - 4 < inherited t s))
 set-by t s i true e h = inl (ltb-true i 4 e, ltb-true i (synthesized t s) h)
 set-by t s i false e h = inr (ltb-false i 4 e, ltb-true (i - 4) (inherited t s) h)
 
@@ -85,7 +86,11 @@ has-left t j p i l m h =
     record {
       production = l;
       position = zero-le;
-      set = ⊎-elim (λ (w : (i < 4) × (i < synthesized t (leftOf t p))). subst (λ (k : ℕ). k < synthesized t (leftOf t p)) (sym e) (w .1)) (λ (w : (4 ≤ i) × (i - 4 < inherited t (leftOf t p))). absurd (omega arith)) (has-set t (leftOf t p) i h);
+      set =
+          ⊎-elim
+          (λ (w : (i < 4) × (i < synthesized t (leftOf t p))). subst (λ (k : ℕ). k < synthesized t (leftOf t p)) (sym e) (w .1))
+          (λ (w : (4 ≤ i) × (i - 4 < inherited t (leftOf t p))). absurd (omega arith))
+          (has-set t (leftOf t p) i h);
     }
 
 pub has-child : HasChild
@@ -95,5 +100,9 @@ has-child t j p k i l n m h =
     record {
       production = l;
       position = n;
-      set = ⊎-elim (λ (w : (i < 4) × (i < synthesized t (childOf t p k))). absurd (omega arith)) (λ (w : (4 ≤ i) × (i - 4 < inherited t (childOf t p k))). subst (λ (j : ℕ). j < inherited t (childOf t p k)) (sym e) (w .1)) (has-set t (childOf t p k) i h);
+      set =
+          ⊎-elim
+          (λ (w : (i < 4) × (i < synthesized t (childOf t p k))). absurd (omega arith))
+          (λ (w : (4 ≤ i) × (i - 4 < inherited t (childOf t p k))). subst (λ (j : ℕ). j < inherited t (childOf t p k)) (sym e) (w .1))
+          (has-set t (childOf t p k) i h);
     }

@@ -68,7 +68,8 @@ module _ (t u : List ℕ) where
     unfolding misnamed
     misnamed-local used x = let e = occurs-local (x / 256) (x % 256) in rw e
 
-    pub equation-local : (q k : ℕ) → headAt t (ruleOf p q k) ≡ headAt u (ruleOf p q k) → constantAt t (ruleOf p q k) ≡ constantAt u (ruleOf p q k) → refusalAt t (equation p q k) ≡ refusalAt u (equation p q k)
+    pub equation-local : (q k : ℕ) → headAt t (ruleOf p q k) ≡ headAt u (ruleOf p q k) → constantAt t (ruleOf p q k) ≡ constantAt u (ruleOf p q k)
+        → refusalAt t (equation p q k) ≡ refusalAt u (equation p q k)
     unfolding refusalAt
     equation-local q k a b =
         let m = misnamed-local (usesA (opNumber (headAt u (ruleOf p q k)))) (aField (headAt u (ruleOf p q k))) in

@@ -24,13 +24,18 @@ pub record Named (t : List ℕ) (p h : ℕ) : Type 0 where
 
 -- none of the conditions of 1 to 5 holds, as numbers
 pub record Sound (t : List ℕ) : Type 0 where
+  -- "1: a table count is outside its limit"
   pub symbols : (1 ≤ symbolCount t) × (symbolCount t ≤ 32)
   pub productions : (1 ≤ productionCount t) × (productionCount t ≤ 64)
   pub sets : (s : ℕ) → s < symbolCount t → (synthesized t s ≤ 4) × (inherited t s ≤ 4)
   pub children : (p : ℕ) → p < productionCount t → childCount t p ≤ 4
+  -- "2: a symbol number isn't below the symbol count"
   pub below : (p q : ℕ) → p < productionCount t → q ≤ childCount t p → symbolAt t p q < symbolCount t
+  -- "3: symbol 0 has an inherited set"
   pub start : inherited t 0 ≡ 0
+  -- "4: op above 8, an unused field not zero, or op 7 with c above 64"
   pub formed : (p q k : ℕ) → Has t p q k → Formed (headAt t (ruleOf p q k)) (constantAt t (ruleOf p q k))
+  -- "5: an argument names no declared occurrence"
   pub named : (p q k : ℕ) → Has t p q k → Named t p (headAt t (ruleOf p q k))
 
 -- a table is judged sound exactly when it is

@@ -3,8 +3,10 @@ pub mod Walks
 pub mod Handed
 pub mod Size
 pub mod Exchange
+pub mod Exactly
 pub mod Symbols
 pub mod Owner
+pub mod Parents
 pub mod Moved
 pub mod Elements
 pub mod Replace

@@ -12,7 +12,7 @@ use Rattle.table.specs.Words.{leftOf}
 use Rattle.tree.specs.Tree.{judgeNodes, spanEnd, childAt, Child}
 use Rattle.tree.specs.Moved.{Moved, stays, shifts, Outer, ahead, behind}
 use Rattle.tree.specs.Replace.{exchanged, part, formerly}
-use Rattle.tree.specs.Replacement.{after, Replacement, ReplacementLaw}
+use Rattle.tree.specs.Replacement.{after, Goes, Around, Replacement, ReplacementLaw}
 use Rattle.tree.proofs.Size.{size-le}
 use Rattle.tree.proofs.Exchange.{subtree-sound, exchange, sound-some}
 use Rattle.tree.proofs.Moved.{moved-one, moved-back, outer-back, end-moved, node-moved, child-moved, child-goes, parent-around}
@@ -65,22 +65,16 @@ module _ (t ns new : List ℕ) (w r : ℕ) (e : judgeNodes t ns (w ∷ []) ≡ 0
   unfolding exchanged
   replace-sound = sym (exchange t old new cs (leftOf t (getD ns r 0)) old-sound n xs (w ∷ [])) ∙ ap (λ l. judgeNodes t l (w ∷ [])) whole ∙ e
 
-  abbrev pub Goes : ℕ → ℕ → Type 0
-  Goes = Moved r (part t ns r) (length new)
-
-  abbrev pub Around : ℕ → ℕ → Type 0
-  Around = Outer r (part t ns r) (length new)
-
-  goes : {q q′ : ℕ} → Goes q q′ → Moved (length xs) (length old) (length new) q q′
+  goes : {q q′ : ℕ} → Goes t ns new r q q′ → Moved (length xs) (length old) (length new) q q′
   goes g = rw (ahead-length, old-length) g
 
-  gone : {q q′ : ℕ} → Moved (length xs) (length old) (length new) q q′ → Goes q q′
+  gone : {q q′ : ℕ} → Moved (length xs) (length old) (length new) q q′ → Goes t ns new r q q′
   gone g = rw (ahead-length, old-length) at g
 
-  around : {q q′ : ℕ} → Around q q′ → Outer (length xs) (length old) (length new) q q′
+  around : {q q′ : ℕ} → Around t ns new r q q′ → Outer (length xs) (length old) (length new) q q′
   around g = rw (ahead-length, old-length) g
 
-  arounded : {q q′ : ℕ} → Outer (length xs) (length old) (length new) q q′ → Around q q′
+  arounded : {q q′ : ℕ} → Outer (length xs) (length old) (length new) q q′ → Around t ns new r q q′
   arounded g = rw (ahead-length, old-length) at g
 
   there : {q k m : ℕ} → Child t ns q k m → Child t (xs ++ (old ++ cs)) q k m
@@ -90,17 +84,17 @@ module _ (t ns new : List ℕ) (w r : ℕ) (e : judgeNodes t ns (w ∷ []) ≡ 0
   s = leftOf t (getD ns r 0)
 
   -- ends correspond
-  pub replace-end : {q q′ : ℕ} → Goes q q′ → Goes (spanEnd t ns q) (spanEnd t (after t ns new r) q′)
+  pub replace-end : {q q′ : ℕ} → Goes t ns new r q q′ → Goes t ns new r (spanEnd t ns q) (spanEnd t (after t ns new r) q′)
   unfolding exchanged
   replace-end {q} {q′} g = rw whole at (gone (end-moved t old new cs s old-sound n xs (goes g)))
 
   -- nodes other than r keep their productions
-  pub replace-node : {q q′ : ℕ} → Around q q′ → getD ns q 0 ≡ getD (after t ns new r) q′ 0
+  pub replace-node : {q q′ : ℕ} → Around t ns new r q q′ → getD ns q 0 ≡ getD (after t ns new r) q′ 0
   unfolding exchanged
   replace-node g = rw whole at (node-moved t old new cs s old-sound n xs (around g))
 
   -- and their children's places correspond
-  pub replace-place : (k : ℕ) {q q′ : ℕ} → Around q q′ → Goes (childAt t ns q k) (childAt t (after t ns new r) q′ k)
+  pub replace-place : (k : ℕ) {q q′ : ℕ} → Around t ns new r q q′ → Goes t ns new r (childAt t ns q k) (childAt t (after t ns new r) q′ k)
   unfolding exchanged
   replace-place k g = rw whole at (gone (child-moved t old new cs s old-sound n xs k (around g)))
 
@@ -115,16 +109,16 @@ module _ (t ns new : List ℕ) (w r : ℕ) (e : judgeNodes t ns (w ∷ []) ≡ 0
   replace-length = exchanged-length ns new r (part t ns r) part-fits
 
   -- children of nodes other than r correspond
-  pub replace-child : {q q′ k m m′ : ℕ} → Around q q′ → Goes m m′ → Child t ns q k m → Child t (after t ns new r) q′ k m′
+  pub replace-child : {q q′ k m m′ : ℕ} → Around t ns new r q q′ → Goes t ns new r m m′ → Child t ns q k m → Child t (after t ns new r) q′ k m′
   unfolding exchanged
   replace-child g i c = child-goes t old new cs s old-sound n xs (around g) (goes i) (there c)
 
-  pub replace-child-back : {q q′ k m m′ : ℕ} → Around q q′ → Goes m m′ → Child t (after t ns new r) q′ k m′ → Child t ns q k m
+  pub replace-child-back : {q q′ k m m′ : ℕ} → Around t ns new r q q′ → Goes t ns new r m m′ → Child t (after t ns new r) q′ k m′ → Child t ns q k m
   unfolding exchanged
   replace-child-back g i c = rw whole at (child-goes t new old cs s n old-sound xs (outer-back (around g)) (moved-back (goes i)) c)
 
   -- parents of places that go correspond
-  pub replace-parent : {q k m m′ : ℕ} → Goes m m′ → Child t ns q k m → (q′ : ℕ) × Around q q′ × Child t (after t ns new r) q′ k m′
+  pub replace-parent : {q k m m′ : ℕ} → Goes t ns new r m m′ → Child t ns q k m → (q′ : ℕ) × Around t ns new r q q′ × Child t (after t ns new r) q′ k m′
   replace-parent i c =
       let a = parent-around t old new cs s old-sound n xs (goes i) (there c) in
       (a .0, arounded (a .1), replace-child (arounded (a .1)) i c)
@@ -137,7 +131,7 @@ module _ (t ns new : List ℕ) (w r : ℕ) (e : judgeNodes t ns (w ∷ []) ≡ 0
       ap (leftOf t) a ∙ root-symbol t new s n
 
   -- nodes that go keep their symbols, r's among them
-  pub replace-symbol : {m m′ : ℕ} → Goes m m′ → leftOf t (getD (after t ns new r) m′ 0) ≡ leftOf t (getD ns m 0)
+  pub replace-symbol : {m m′ : ℕ} → Goes t ns new r m m′ → leftOf t (getD (after t ns new r) m′ 0) ≡ leftOf t (getD ns m 0)
   replace-symbol {m} {m′} (stays a f) = elim (decLt m r) [
     | yes b ↦ ap (leftOf t) (sym (replace-node (ahead b f)))
     | no b ↦
@@ -147,7 +141,7 @@ module _ (t ns new : List ℕ) (w r : ℕ) (e : judgeNodes t ns (w ∷ []) ≡ 0
   ]
   replace-symbol (shifts a f) = ap (leftOf t) (sym (replace-node (behind a f)))
 
-  pub replace-below : {m m′ : ℕ} → Goes m m′ → m′ < length (after t ns new r) → m < length ns
+  pub replace-below : {m m′ : ℕ} → Goes t ns new r m m′ → m′ < length (after t ns new r) → m < length ns
   replace-below (stays a f) b = omega arith
   replace-below (shifts a f) b = omega (arith, replace-length)
 

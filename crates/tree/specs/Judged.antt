@@ -10,18 +10,18 @@ use Rattle.tree.specs.Tree.{judgeNodes}
 -- row of subtrees, one for each symbol
 mutual
   pub data Subtree (t : List ℕ) : ℕ → List ℕ → Type 0 where
-    node : {p : ℕ} {ns : List ℕ} → p < productionCount t → Row t (children t p) ns → Subtree t (leftOf t p) (p ∷ ns)
+    node : {p s : ℕ} {ns : List ℕ} → p < productionCount t → leftOf t p ≡ s → Row t (children t p) ns → Subtree t s (p ∷ ns)
 
   pub data Row (t : List ℕ) : List ℕ → List ℕ → Type 0 where
     none : Row t [] []
-    more : {s : ℕ} {wanted ms ns : List ℕ} → Subtree t s ms → Row t wanted ns → Row t (s ∷ wanted) (ms ++ ns)
+    more : {s : ℕ} {wanted ms ns all : List ℕ} → Subtree t s ms → Row t wanted ns → all ≡ ms ++ ns → Row t (s ∷ wanted) all
 
 -- nodes are read in preorder while each is of the symbol wanted there: of the symbols `wanted` at first, `left` are still wanted behind the nodes
 pub data Good (t : List ℕ) : List ℕ → List ℕ → List ℕ → Type 0 where
   begin : {wanted : List ℕ} → Good t wanted [] wanted
   next : {p s : ℕ} {wanted ns left : List ℕ} → p < productionCount t → leftOf t p ≡ s → Good t (children t p ++ wanted) ns left → Good t (s ∷ wanted) (p ∷ ns) left
 
--- the first bad node has a production number that isn't below the count
+-- "6: a node's production number isn't below the count": the first bad node has a production number that isn't below the count
 pub record Number (t wanted ns : List ℕ) : Type 0 where
   pub before : List ℕ
   pub node : ℕ
@@ -31,7 +31,7 @@ pub record Number (t wanted ns : List ℕ) : Type 0 where
   pub good : Good t wanted before left
   pub wrong : productionCount t ≤ node
 
--- nodes are missing; or the first bad node is left over, or is of a wrong symbol, while its production number is below the count
+-- "7: no nodes, nodes missing or left over, or a wrong symbol", "6 before 7 at a node": nodes are missing; or the first bad node is left over, or is of a wrong symbol, while its production number is below the count
 pub data Shape (t wanted ns : List ℕ) : Type 0 where
   missing : (s : ℕ) (left : List ℕ) → Good t wanted ns (s ∷ left) → Shape t wanted ns
   over : (before : List ℕ) (p : ℕ) (behind : List ℕ) → ns ≡ before ++ (p ∷ behind) → Good t wanted before [] → p < productionCount t → Shape t wanted ns

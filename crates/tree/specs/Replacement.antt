@@ -12,19 +12,26 @@ use Rattle.tree.specs.Replace.{exchanged, part}
 abbrev pub after : List ℕ → List ℕ → List ℕ → ℕ → List ℕ
 after t ns new r = exchanged ns r (part t ns r) new
 
+-- where the places go, and those of the nodes outside the part
+abbrev pub Goes : List ℕ → List ℕ → List ℕ → ℕ → ℕ → ℕ → Type 0
+Goes t ns new r = Moved r (part t ns r) (length new)
+
+abbrev pub Around : List ℕ → List ℕ → List ℕ → ℕ → ℕ → ℕ → Type 0
+Around t ns new r = Outer r (part t ns r) (length new)
+
 pub record Replacement (t ns new : List ℕ) (w r : ℕ) : Type 0 where
   pub sound : judgeNodes t (after t ns new r) (w ∷ []) ≡ 0
   pub size : length (after t ns new r) + part t ns r ≡ length ns + length new
   pub some : 0 < part t ns r
   pub fits : r + part t ns r ≤ length ns
   -- a node outside the part keeps its production, and r's place its symbol too
-  pub node : {q q′ : ℕ} → Outer r (part t ns r) (length new) q q′ → getD ns q 0 ≡ getD (after t ns new r) q′ 0
-  pub symbol : {m m′ : ℕ} → Moved r (part t ns r) (length new) m m′ → leftOf t (getD (after t ns new r) m′ 0) ≡ leftOf t (getD ns m 0)
-  pub ends : {q q′ : ℕ} → Moved r (part t ns r) (length new) q q′ → Moved r (part t ns r) (length new) (spanEnd t ns q) (spanEnd t (after t ns new r) q′)
-  pub place : (k : ℕ) {q q′ : ℕ} → Outer r (part t ns r) (length new) q q′ → Moved r (part t ns r) (length new) (childAt t ns q k) (childAt t (after t ns new r) q′ k)
-  pub child : {q q′ k m m′ : ℕ} → Outer r (part t ns r) (length new) q q′ → Moved r (part t ns r) (length new) m m′ → Child t ns q k m → Child t (after t ns new r) q′ k m′
-  pub child-back : {q q′ k m m′ : ℕ} → Outer r (part t ns r) (length new) q q′ → Moved r (part t ns r) (length new) m m′ → Child t (after t ns new r) q′ k m′ → Child t ns q k m
-  pub parent : {q k m m′ : ℕ} → Moved r (part t ns r) (length new) m m′ → Child t ns q k m → (q′ : ℕ) × Outer r (part t ns r) (length new) q q′ × Child t (after t ns new r) q′ k m′
+  pub node : {q q′ : ℕ} → Around t ns new r q q′ → getD ns q 0 ≡ getD (after t ns new r) q′ 0
+  pub symbol : {m m′ : ℕ} → Goes t ns new r m m′ → leftOf t (getD (after t ns new r) m′ 0) ≡ leftOf t (getD ns m 0)
+  pub ends : {q q′ : ℕ} → Goes t ns new r q q′ → Goes t ns new r (spanEnd t ns q) (spanEnd t (after t ns new r) q′)
+  pub place : (k : ℕ) {q q′ : ℕ} → Around t ns new r q q′ → Goes t ns new r (childAt t ns q k) (childAt t (after t ns new r) q′ k)
+  pub child : {q q′ k m m′ : ℕ} → Around t ns new r q q′ → Goes t ns new r m m′ → Child t ns q k m → Child t (after t ns new r) q′ k m′
+  pub child-back : {q q′ k m m′ : ℕ} → Around t ns new r q q′ → Goes t ns new r m m′ → Child t (after t ns new r) q′ k m′ → Child t ns q k m
+  pub parent : {q k m m′ : ℕ} → Goes t ns new r m m′ → Child t ns q k m → (q′ : ℕ) × Around t ns new r q q′ × Child t (after t ns new r) q′ k m′
 
 -- of a tree of symbol w, a node r of it, and a new part that is a tree of r's symbol
 abbrev pub ReplacementLaw : Type 0

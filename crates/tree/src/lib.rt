@@ -77,8 +77,8 @@ pub fn judge_nodes(table: &[u64; 2657], productions: &[u8], symbol: usize) -> Ve
             if productions.len() <= next {
                 return Verdict::Sound;
             }
-            let p = wide(productions[next]);
-            if production_count(table) <= p {
+            let over = wide(productions[next]);
+            if production_count(table) <= over {
                 return Verdict::Refused(Refusal::Production);
             }
             Verdict::Refused(Refusal::Shape)

@@ -15,11 +15,12 @@ use Rattle.tree.specs.Replace.{exchanged, part, formerly}
 use Rattle.circles.specs.Ranked.{keep, firstOf, upFrom, has, wider, widened, reaching, reachings, labelIn, labelsBy, labelsOf, circleOf, settled, ready, takeable, ranking, rankedBy, ranked, loneOf}
 use Rattle.climb.specs.Climb.{leastFrom}
 use Rattle.climb.specs.Circuit.{dueOf}
+use Rattle.climb.specs.Memory.{stores}
 use Rattle.wire.specs.Instances.{declared, placeOf, ruleAt, opAt, named, argsAt, evalAt}
 use Rattle.update.specs.Records.{beyond, shut, emptyRecord, opened}
 use Rattle.update.specs.Memories.{filled, loaded, belowPoint, arranged, replaced}
 use Rattle.update.specs.Refusals.{short, loadRefusal, passes, replaceRefusal, stepRefusal}
-use Rattle.update.specs.Steps.{sownOf, stores, survives, changedOf, roundNumber, fromOf, toOf, closedOf, roundRecord, roundMade, doneMade, dueFrom, stepOf}
+use Rattle.update.specs.Steps.{sownOf, survives, changedOf, roundNumber, fromOf, toOf, closedOf, roundRecord, roundMade, doneMade, dueFrom, stepOf}
 use Rattle.update.specs.Calls.{loadCall, replaceCall, stepCall}
 use Rattle.update.specs.Cases.{walk, blank, loadA, replaceA, cases, EveryCase}
 

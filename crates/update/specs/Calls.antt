@@ -1,14 +1,13 @@
 -- The engine's calls, each whole: for any table, tree, record and memory what it answers and what it leaves in the record and in every buffer.
 -- "A refusal returns its number and changes nothing lent." Assumes nothing.
-use mathlib.Core.Bool.{Bool, _&&_}
-use mathlib.Core.List.{List, [], _∷_}
+use mathlib.Core.List.{List}
 use Prim.Native.Nat.{ℕ, zero, suc, _+_, _-_, _*_}
 use lib.ListN.{length}
-use Rattle.refusal.specs.declared.Verdict.{Verdict}
 use Rattle.refusal.specs.Numbers.{numberOf}
 use Rattle.tree.specs.Replace.{part}
 use Rattle.circles.specs.Ranked.{ranked, keep, upFrom}
 use Rattle.climb.specs.System.{System, graphOf}
+use Rattle.climb.specs.Memory.{at}
 use Rattle.wire.specs.Instances.{declared, system}
 use Rattle.update.specs.declared.Record.{Record}
 use Rattle.update.specs.declared.Open.the-variants.{Load, Replacement}
@@ -21,7 +20,7 @@ use Rattle.update.specs.declared.Reading.the-variants.{Set, Refused as R
 use Rattle.update.specs.Records.{opened}
 use Rattle.update.specs.Memories.{Memory, nodesOf, ownsOf, loaded, replaced}
 use Rattle.update.specs.Refusals.{loadRefusal, replaceRefusal, stepRefusal, readRefusal}
-use Rattle.update.specs.Steps.{at, Outcome, round, done, Made, stepOf, Ending, paused, finished, Ran, runOf}
+use Rattle.update.specs.Steps.{Outcome, round, done, Made, stepOf, Ending, paused, finished, Ran, runOf}
 
 -- ---- an answer is a refusal's number, or what was asked for
 

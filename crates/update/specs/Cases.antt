@@ -4,17 +4,18 @@ use mathlib.Core.Bool.{Bool, true, false, cond, _&&_}
 use mathlib.Core.List.{List, [], _∷_, _++_, map}
 use Prim.Native.Nat.{ℕ, zero, suc}
 use lib.Dec.{eqb}
-use lib.ListN.{replicate, getD}
+use lib.ListN.{replicate}
 use Rattle.sets.specs.declared.Argument.{Argument}
 use Rattle.sets.specs.declared.Op.the-variants.{MeetConstant, IfAll, IfMany, JoinOwn}
 use Rattle.sets.specs.Operations.{valueOf}
 use Rattle.table.specs.Example.{tableA}
 use Rattle.climb.specs.System.{weight}
+use Rattle.climb.specs.Memory.{at}
 use Rattle.update.specs.declared.Record.{Record}
 use Rattle.update.specs.Records.{emptyRecord}
 use Rattle.update.specs.Memories.{Memory}
-use Rattle.update.specs.Steps.{at, Outcome, round, done}
-use Rattle.update.specs.Calls.{Said, refused, said, Left, Opened, loadCall, replaceCall, stepCall}
+use Rattle.update.specs.Steps.{Outcome, round, done}
+use Rattle.update.specs.Calls.{Said, refused, said, loadCall, replaceCall, stepCall}
 
 -- a case: what the definitions give, and what document 01 says that they give
 pub record Case : Type 0 where

@@ -3,4 +3,8 @@ pub mod Memories
 pub mod Refusals
 pub mod Steps
 pub mod Calls
+pub mod Refused
+pub mod Within
+pub mod Demands
+pub mod Meaning
 pub mod Cases

@@ -1,30 +1,22 @@
 -- Sown, due, one step of an update and a run of steps, over any system and any circles. Assumes nothing.
-use mathlib.Core.Bool.{Bool, true, false, cond, not, _&&_, _||_}
-use mathlib.Core.List.{List, [], _∷_}
+use mathlib.Core.Bool.{Bool, cond, not, _&&_, _||_}
+use mathlib.Core.List.{List}
 use Prim.Native.Nat.{ℕ, zero, suc, _+_, _-_, min}
 use lib.Dec.{eqb, ltb, leb}
-use lib.ListN.{length, getD, set}
+use lib.ListN.{length, getD}
 use Rattle.circles.specs.Ranked.{allOf, keep, upFrom, loneOf}
-use Rattle.climb.specs.System.{Assignment, System, graphOf}
+use Rattle.climb.specs.System.{System, graphOf}
 use Rattle.climb.specs.Climb.{leastFrom}
 use Rattle.climb.specs.Circuit.{circleAt, dueOf}
+use Rattle.climb.specs.Memory.{at, emptyOn, roundOn}
 use Rattle.wire.specs.Instances.{nodeOf, indexOf}
 use Rattle.update.specs.declared.Record.{Record}
 use Rattle.update.specs.Records.{circlesMost, roundMost, evaluationsMost, isLoad, shut, working}
 use Rattle.update.specs.Memories.{belowPoint}
 
--- the set of an instance in a list of sets
-abbrev pub at : List ℕ → Assignment
-at l x = getD l x 0
-
 -- "Sown instances: r's synthesized ones and all below r; in a load, all."
 unfoldable pub sownOf : Record → ℕ → Bool
 sownOf r x = isLoad (r .«open») || (eqb (nodeOf x) (r .point) && ltb (indexOf x) 4) || belowPoint (r .point) (r .part) (nodeOf x)
-
--- l with the sets of the members of C replaced by those of g
-unfoldable pub stores : List ℕ → List ℕ → Assignment → List ℕ
-stores l [] g = l
-stores l (x ∷ C) g = stores (set l x (g x)) C g
 
 -- "changed: surviving instances, r's included, whose value differs from before. For a load, changed is 0."
 unfoldable pub survives : Record → ℕ → Bool
@@ -42,11 +34,11 @@ roundNumber r i = min (suc (cond (eqb i (r .rank)) (r .round) 0)) roundMost
 
 -- "In round 1 of a circle that isn't lone, its values first become empty."
 unfoldable pub fromOf : System → List ℕ → ℕ → List ℕ → List ℕ
-fromOf S C k sets = cond (eqb k 1 && not (loneOf (graphOf S) C)) (stores sets C (λ x. 0)) sets
+fromOf S C k sets = cond (eqb k 1 && not (loneOf (graphOf S) C)) (emptyOn C sets) sets
 
 -- "A round computes every equation of the circle from the values before that round and stores them together."
 unfoldable pub toOf : System → List ℕ → List ℕ → List ℕ
-toOf S C from = stores from C (S .eval (at from))
+toOf S C from = roundOn S C from
 
 -- "The circle closes when a round alters nothing (round 1 compares with empty); a lone circle closes after round 1."
 unfoldable pub closedOf : System → List ℕ → List ℕ → List ℕ → Bool

@@ -1,8 +1,8 @@
 -- `compute`: the values in a row and the flag, as they are left by what is left of the circle. Assumes nothing.
-use mathlib.Core.Path.{_≡_, refl, sym, ap, _∙_}
+use mathlib.Core.Path.{_≡_, refl, ap, _∙_}
 use mathlib.Core.Bool.{_&&_}
 use mathlib.Core.List.{map}
-use Prim.Native.Nat.{_≤_, _<_, _-_}
+use Prim.Native.Nat.{_≤_, _-_}
 use native.Mathlib.Nat.{le-refl, le-trans}
 use native.Mathlib.Numerals.{add-one}
 use native.Mathlib.Omega.{arith}
@@ -26,7 +26,9 @@ Inv-loop table owns a b left rule members start end n sets values₀ still₀ p�
 abbrev μ-loop : tie.MeasureT-loop
 μ-loop table owns a b left rule members start end n sets values₀ still₀ p₀ values still p = end - p
 
-here : (c : tie.After-wide Inv-loop μ-loop) → Row (c .before .before .before .before .before .before .before .before .before .before .before .before .args .owns .now) (c .before .before .before .before .before .before .before .before .before .before .before .before .args .a .now) (c .before .before .before .before .before .before .before .before .before .before .before .before .args .b .now) (c .before .before .before .before .before .before .before .before .before .before .before .before .args .left .now) (c .before .before .before .before .before .before .before .before .before .before .before .before .args .rule .now) (c .before .before .before .before .before .before .before .before .before .before .before .before .args .n) (c .wide .result)
+here : (c : tie.After-wide Inv-loop μ-loop) →
+    let g = c .before .before .before .before .before .before .before .before .before .before .before .before .args in
+    Row (g .owns .now) (g .a .now) (g .b .now) (g .left .now) (g .rule .now) (g .n) (c .wide .result)
 here c = rw (c .wide .ensures) (c .before .before .before .loop .inv .0 .row (c .before .before .before .loop .p) (le-refl _) (c .before .before .loop-test .taken))
 
 loop-holds : tie.Need-loop-holds Inv-loop μ-loop

@@ -1,5 +1,4 @@
 -- `evaluate`: the equation of the rule at the own set of the left node and at the two arguments. Assumes nothing.
-use mathlib.Core.Path.{_∙_, ap}
 use borrow.Author.Needs.{needs}
 use Rattle.climb.specs.Memory.{at}
 use Rattle.climb.specs.Wired.{evalOf}

@@ -1,5 +1,4 @@
 -- `round`: all values are computed before the first is stored. Assumes nothing.
-use mathlib.Core.Path.{_∙_}
 use borrow.Author.Needs.{needs}
 use Rattle.climb.specs.Memory.{at}
 use Rattle.climb.specs.Wired.{evalOf}

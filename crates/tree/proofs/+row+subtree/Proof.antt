@@ -1,6 +1,6 @@
 -- The two walks call each other while what is unread falls: a subtree's row starts one node further on, and a row's subtree passes one node at least. Assumes nothing.
 use Prim.Native.Nat.{ℕ, _<_, _+_, _-_, _*_}
-use mathlib.Core.Path.{ap, sym, _∙_}
+use mathlib.Core.Path.{ap}
 use mathlib.Core.List.{[], _∷_}
 use native.Mathlib.Omega.{arith}
 use lib.ListN.{length}
@@ -89,7 +89,7 @@ pub +row+subtree-spec : {M : Type 1} → statement M
     )
     (subtree-at t)
     subtree.Post
-    (λ c. let s = c .before .before in λ ss. judge-short (s .args .table .now) (s .args .productions .now) (s .args .at) (s .args .symbol) ss (c .if1 .taken))
+    (λ c. let s = c .before .before in λ ss. judge-short (s .args .table .now) (s .args .productions .now) (s .args .at) (s .args .symbol) ss (omega arith))
     (λ c. search needs)
     (λ c κs. search needs)
     (λ c κs. search needs)
@@ -97,10 +97,10 @@ pub +row+subtree-spec : {M : Type 1} → statement M
     (λ c κs. omega arith)
     (λ c.
     let s = c .before .before .before .before .before .before .before .before in
-    λ ss. judge-wrong (s .args .table .now) (s .args .productions .now) (s .args .at) (omega arith) (s .args .symbol) ss (omega arith) (λ e. c .if3 .taken (c .before .left-of .ensures ∙ ap (leftOf (s .args .table .now)) (c .before .before .before .before .wide .ensures .0) ∙ e)))
+    λ ss. judge-wrong (s .args .table .now) (s .args .productions .now) (s .args .at) (omega arith) (s .args .symbol) ss (omega arith) (λ e. omega (arith, ap (leftOf (s .args .table .now)) (c .before .before .before .before .wide .ensures .0))))
     (λ c. omega arith)
     (λ c κs. let s = c .before .before .before .before .before .before .before .before in (omega arith, (s .pre .1 .0, (omega arith, (omega arith, omega arith)))))
     (λ c.
     let s = c .before .before .before .before .before .before .before .before .before in
     let w = c .before .before .before .before .before in
-    subtree-goes (s .args .table .now) (s .args .productions .now) (s .args .at) (s .args .symbol) (w .wide .result) (omega arith) (w .wide .ensures .0) (omega arith) (sym (c .before .before .left-of .ensures) ∙ c .before .if3 .left) (c .row .result) (c .row .ensures))
+    subtree-goes (s .args .table .now) (s .args .productions .now) (s .args .at) (s .args .symbol) (w .wide .result) (omega arith) (w .wide .ensures .0) (omega arith) (omega arith) (c .row .result) (c .row .ensures))

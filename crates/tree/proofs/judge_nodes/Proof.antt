@@ -13,7 +13,7 @@ none-left c =
     let s = c .before .before .before .before .before .before in
     let b = c .before .before in
     let h = known (s .args .table .now) (s .args .productions .now) 0 _ (_ ∷ []) (b .next .given .1) (b .before .before .subtree .ensures) in
-    sym (h .rest [] ∙ judge-done (s .args .table .now) (s .args .productions .now) (b .next .given .0 .0) (c .if1 .taken))
+    sym (h .rest [] ∙ judge-done (s .args .table .now) (s .args .productions .now) (b .next .given .0 .0) (omega arith))
 
 left-number : tie.Need-returns-2
 left-number c =
@@ -21,7 +21,7 @@ left-number c =
     let s = d .before .before .before .before .before .before in
     let b = d .before .before in
     let h = known (s .args .table .now) (s .args .productions .now) 0 _ (_ ∷ []) (b .next .given .1) (b .before .before .subtree .ensures) in
-    sym (h .rest [] ∙ judge-number (s .args .table .now) (s .args .productions .now) (b .next .given .0 .0) (d .if1 .left) [] (omega arith))
+    sym (h .rest [] ∙ judge-number (s .args .table .now) (s .args .productions .now) (b .next .given .0 .0) (omega arith) [] (omega arith))
 
 left-over : tie.Need-returns-3
 left-over c =
@@ -29,7 +29,7 @@ left-over c =
     let s = d .before .before .before .before .before .before in
     let b = d .before .before in
     let h = known (s .args .table .now) (s .args .productions .now) 0 _ (_ ∷ []) (b .next .given .1) (b .before .before .subtree .ensures) in
-    sym (h .rest [] ∙ judge-over (s .args .table .now) (s .args .productions .now) (b .next .given .0 .0) (d .if1 .left) (omega arith))
+    sym (h .rest [] ∙ judge-over (s .args .table .now) (s .args .productions .now) (b .next .given .0 .0) (omega arith) (omega arith))
 
 wrong : tie.Need-returns-4
 wrong c =

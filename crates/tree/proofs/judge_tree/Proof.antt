@@ -14,13 +14,13 @@ large : tie.Need-returns
 large c =
     let b = c .before in
     let s = b .before .before .before .before .before in
-    too-large (s .args .table .now) (s .args .productions .now) (s .args .owns .now) (sound-zero (b .enum-told .given .1) (b .before .before .judge-table .ensures)) (c .if1 .taken)
+    too-large (s .args .table .now) (s .args .productions .now) (s .args .owns .now) (sound-zero (b .enum-told .given .1) (b .before .before .judge-table .ensures)) (omega arith)
 
 other : tie.Need-returns-2
 other c =
     let b = c .before .before in
     let s = b .before .before .before .before .before in
-    unequal (s .args .table .now) (s .args .productions .now) (s .args .owns .now) (sound-zero (b .enum-told .given .1) (b .before .before .judge-table .ensures)) (c .before .if1 .left) (c .if2 .taken)
+    unequal (s .args .table .now) (s .args .productions .now) (s .args .owns .now) (sound-zero (b .enum-told .given .1) (b .before .before .judge-table .ensures)) (omega arith) (λ e. omega arith)
 
 nodes : tie.Need-returns-3
 nodes c =
@@ -28,7 +28,7 @@ nodes c =
     let b = d .before .before in
     let s = b .before .before .before .before .before in
     c .judge-nodes .ensures
-    ∙ judged (s .args .table .now) (s .args .productions .now) (s .args .owns .now) (sound-zero (b .enum-told .given .1) (b .before .before .judge-table .ensures)) (d .before .if1 .left) (d .if2 .left)
+    ∙ judged (s .args .table .now) (s .args .productions .now) (s .args .owns .now) (sound-zero (b .enum-told .given .1) (b .before .before .judge-table .ensures)) (omega arith) (omega arith)
 
 pub judge-tree-spec : {M : Type 1} → statement M
 unfolding treeRefusal

@@ -7,11 +7,15 @@ use Rattle.table.proofs.judge.is_misnamed.Tie as tie
 
 returns : tie.Need-returns
 unfolding misnamed
-returns c = rw (c .before .before .before .before .if1 .taken, ← c .before .before .before .number .ensures, ← c .before .before .number2 .ensures, sym (c .before .occurs-at .ensures) ∙ c .if2 .taken)
+returns c =
+    let n = c .before .before in
+    rw (n .before .before .if1 .taken, ← n .before .number .ensures, ← n .number2 .ensures, sym (c .before .occurs-at .ensures) ∙ c .if2 .taken)
 
 returns-2 : tie.Need-returns-2
 unfolding misnamed
-returns-2 c = rw (c .before .before .before .before .if1 .taken, ← c .before .before .before .number .ensures, ← c .before .before .number2 .ensures, sym (c .before .occurs-at .ensures) ∙ c .if2 .left)
+returns-2 c =
+    let n = c .before .before in
+    rw (n .before .before .if1 .taken, ← n .before .number .ensures, ← n .number2 .ensures, sym (c .before .occurs-at .ensures) ∙ c .if2 .left)
 
 pub is-misnamed-spec : {M : Type 1} → statement M
 unfolding misnamed

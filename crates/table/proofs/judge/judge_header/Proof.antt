@@ -9,13 +9,19 @@ returns-2 : tie.Need-returns-2
 unfolding refusalAt
 returns-2 c =
     let b = c .before .before .before in
-    rw (rw (b .before .before .symbol-count .ensures) at (sym (b .before .is-outside .ensures) ∙ b .if1 .left), rw (c .before .before .production-count .ensures) at (sym (c .before .is-outside2 .ensures) ∙ c .if2 .taken))
+    rw (
+      rw (b .before .before .symbol-count .ensures) at (sym (b .before .is-outside .ensures) ∙ b .if1 .left),
+      rw (c .before .before .production-count .ensures) at (sym (c .before .is-outside2 .ensures) ∙ c .if2 .taken),
+    )
 
 returns-3 : tie.Need-returns-3
 unfolding refusalAt
 returns-3 c =
     let b = c .before .before .before in
-    rw (rw (b .before .before .symbol-count .ensures) at (sym (b .before .is-outside .ensures) ∙ b .if1 .left), rw (c .before .before .production-count .ensures) at (sym (c .before .is-outside2 .ensures) ∙ c .if2 .left))
+    rw (
+      rw (b .before .before .symbol-count .ensures) at (sym (b .before .is-outside .ensures) ∙ b .if1 .left),
+      rw (c .before .before .production-count .ensures) at (sym (c .before .is-outside2 .ensures) ∙ c .if2 .left),
+    )
 
 pub judge-header-spec : {M : Type 1} → statement M
 unfolding refusalAt

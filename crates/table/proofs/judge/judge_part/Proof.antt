@@ -18,12 +18,12 @@ judge-equations-requires c κs =
 returns : tie.Need-returns
 returns c =
     let s = c .before .before .before .before in
-    c .judge-equations .ensures ∙ sym (or-goes (refusalAt (s .args .table .now) (production (s .args .p))) (equationsOf (s .args .table .now) (s .args .p)) (c .before .enum-told .given .1) (c .before .before .before .judge-production .ensures))
+    c .judge-equations .ensures ∙ sym (or-goes _ (equationsOf (s .args .table .now) (s .args .p)) (c .before .enum-told .given .1) (c .before .before .before .judge-production .ensures))
 
 returns-2 : tie.Need-returns-2
 returns-2 c =
     let s = c .before .before .before .before in
-    or-stops (refusalAt (s .args .table .now) (production (s .args .p))) (equationsOf (s .args .table .now) (s .args .p)) (c .before .r .given .1) (c .before .before .before .judge-production .ensures)
+    or-stops _ (equationsOf (s .args .table .now) (s .args .p)) (c .before .r .given .1) (c .before .before .before .judge-production .ensures)
 
 pub judge-part-spec : {M : Type 1} → statement M
 judge-part-spec = tie.close (tie.spec (λ c κs. search needs) (λ c. search needs) judge-equations-requires (λ c. search needs) returns returns-2)

@@ -1,0 +1,16 @@
+pub mod Paths
+pub mod Stamps
+pub mod Front
+pub mod Chains
+pub mod Sweeps
+pub mod Rounds
+pub mod Lists
+pub mod Reach
+pub mod Least
+pub mod Holding
+pub mod Lowering
+pub mod Words
+pub mod Cursors
+pub mod Taking
+pub mod Laying
+pub mod Ranking

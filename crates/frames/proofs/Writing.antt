@@ -1,0 +1,227 @@
+-- Writing a table and a tree: lengths, room, and where each frame goes. Assumes nothing.
+use mathlib.Core.Path.{_≡_, refl, ap, sym, _∙_}
+use mathlib.Core.Bool.{Bool, true, false}
+use mathlib.Core.List.{List, [], _∷_, _++_}
+use mathlib.Core.Logic.{⊎-elim}
+use Prim.Native.Nat.{ℕ, zero, suc, _+_, _*_, _-_, _≤_, _<_}
+use native.Mathlib.Omega.{arith}
+use native.Mathlib.Numerals.{add-one}
+use borrow.Author.Tests.{lt-ltb, le-ltb, le-leb, lt-leb}
+use lib.Dec.{leb}
+use lib.ListN.{length, getD, take, drop, length-append}
+use lib.Seq.{sets, drop-cons, drop-length}
+use Rattle.lines.specs.Text.{Field, byte, widthOf}
+use Rattle.lines.proofs.Values.{lt-or-ge}
+use Rattle.lines.proofs.Fields.{line-length}
+use Rattle.lines.proofs.Out.{sets-append}
+use Rattle.refusal.specs.Numbers.{numberOf}
+use Rattle.refusal.specs.declared.Refusal.{Refusal}
+use Rattle.refusal.specs.declared.Refusal.the-variants as why
+use Rattle.table.specs.Words.{symbolCount, productionCount, childCount, defined, ruleOf, headAt}
+use Rattle.table.specs.Equations.{opNumber}
+use Rattle.table.specs.Judge.{header, symbol, production, equation, judgeTable}
+use Rattle.table.specs.Shape.{Shaped}
+use Rattle.table.specs.Sound.{Sound}
+use Rattle.table.specs.Same.{Has}
+use Rattle.table.proofs.FirstLaws.{or-none}
+use Rattle.table.proofs.Holds.{symbols-of, shaped-of}
+use Rattle.table.proofs.Sound.{AllHold, all-hold, sound}
+use Rattle.tree.specs.Refusals.{treeRefusal}
+use Rattle.tree.proofs.Handed.{too-large, unequal}
+use Rattle.frames.specs.Text.{childIn, fieldsOf, textOf, shown, texts, tableText, nodesText, treeText}
+use Rattle.frames.specs.Walk.{nextOf, Ready, Shows, isOn, textAt}
+use Rattle.frames.specs.Written.{refusalOf, writtenOf, bufferAfter}
+use Rattle.frames.specs.declared.Frame.the-variants.{Node, Load}
+use Rattle.frames.specs.declared.Written.the-variants.{Refused}
+use Rattle.frames.specs.declared.Expected.{Expected}
+use Rattle.frames.specs.declared.Expected.the-variants.{AtHeader, AtSymbol, AtProduction, AtEquation, Ended}
+use Rattle.frames.proofs.Order.{Valid, restOf, entries, rest-next, text-next, next-valid}
+
+-- what is answered for a refusal, and what becomes of the buffer
+pub refused-answer : (r : Refusal) (room : ℕ) (text : List ℕ) → Refused r ≡ writtenOf (numberOf r) room text
+unfolding refusalOf
+refused-answer why.Count room text = refl
+refused-answer why.Symbol room text = refl
+refused-answer why.Start room text = refl
+refused-answer why.Form room text = refl
+refused-answer why.Argument room text = refl
+refused-answer why.Production room text = refl
+refused-answer why.Shape room text = refl
+refused-answer why.Size room text = refl
+refused-answer why.Point room text = refl
+refused-answer why.Busy room text = refl
+refused-answer why.Fields room text = refl
+refused-answer why.Undeclared room text = refl
+refused-answer why.Line room text = refl
+refused-answer why.Frame room text = refl
+refused-answer why.Buffer room text = refl
+refused-answer why.Absent room text = refl
+refused-answer why.Idle room text = refl
+
+pub refused-buffer : (r : Refusal) (buffer text : List ℕ) → buffer ≡ bufferAfter (numberOf r) buffer text
+refused-buffer why.Count buffer text = refl
+refused-buffer why.Symbol buffer text = refl
+refused-buffer why.Start buffer text = refl
+refused-buffer why.Form buffer text = refl
+refused-buffer why.Argument buffer text = refl
+refused-buffer why.Production buffer text = refl
+refused-buffer why.Shape buffer text = refl
+refused-buffer why.Size buffer text = refl
+refused-buffer why.Point buffer text = refl
+refused-buffer why.Busy buffer text = refl
+refused-buffer why.Fields buffer text = refl
+refused-buffer why.Undeclared buffer text = refl
+refused-buffer why.Line buffer text = refl
+refused-buffer why.Frame buffer text = refl
+refused-buffer why.Buffer buffer text = refl
+refused-buffer why.Absent buffer text = refl
+refused-buffer why.Idle buffer text = refl
+
+-- how long each frame's text is
+pub header-length : (t : List ℕ) → length (textAt t AtHeader) ≡ 7
+unfolding textAt textOf shown fieldsOf
+header-length t = line-length (fieldsOf (shown t header))
+
+pub symbol-length : (t : List ℕ) (s : ℕ) → length (textAt t (AtSymbol s)) ≡ 7
+unfolding textAt textOf shown fieldsOf
+symbol-length t s = line-length (fieldsOf (shown t (symbol s)))
+
+pub equation-length : (t : List ℕ) (p q k : ℕ) → length (textAt t (AtEquation p q k)) ≡ 29
+unfolding textAt textOf shown fieldsOf
+equation-length t p q k = line-length (fieldsOf (shown t (equation p q k)))
+
+children-width : (n a b c d : ℕ) → n ≤ 4 → widthOf (take n (byte a ∷ byte b ∷ byte c ∷ byte d ∷ [])) ≡ 2 * n
+children-width zero a b c d h = refl
+children-width (suc zero) a b c d h = refl
+children-width (suc (suc zero)) a b c d h = refl
+children-width (suc (suc (suc zero))) a b c d h = refl
+children-width (suc (suc (suc (suc zero)))) a b c d h = refl
+children-width (suc (suc (suc (suc (suc n))))) a b c d h = absurd (omega arith)
+
+pub production-length : (t : List ℕ) (p : ℕ) → childCount t p ≤ 4 → length (textAt t (AtProduction p)) ≡ 7 + 2 * childCount t p
+unfolding textAt textOf shown fieldsOf
+production-length t p h = line-length (fieldsOf (shown t (production p))) ∙ omega (arith, children-width (childCount t p) (childIn t p 0) (childIn t p 1) (childIn t p 2) (childIn t p 3) h)
+
+pub node-length : (p o : ℕ) → length (textOf (Node p o)) ≡ 21
+unfolding textOf fieldsOf
+node-length p o = line-length (fieldsOf (Node p o))
+
+pub load-length : (n : ℕ) → length (textOf (Load n)) ≡ 7
+unfolding textOf fieldsOf
+load-length n = line-length (fieldsOf (Load n))
+
+-- of a sound table
+module _ (t : List ℕ) (e : judgeTable t ≡ 0) where
+  shaped : (p : ℕ) → p < productionCount t → Shaped t p
+  shaped p h = let a = all-hold t e in shaped-of t p (symbols-of t (a .header) (a .symbols)) (a .productions p h)
+
+  pub ready-of : (x : Expected) → Valid t x → Ready t x
+  ready-of AtHeader v = tt
+  ready-of (AtSymbol s) v = omega (arith, sound t e .symbols .1)
+  ready-of (AtProduction p) v = (omega (arith, sound t e .productions .1), shaped p v)
+  ready-of (AtEquation p q k) v =
+      let s = shaped p (v .production) in
+      (omega (arith, v .production, sound t e .productions .1), (s, (v .position, omega (arith, v .set, s .few q (v .position)))))
+  ready-of Ended v = tt
+
+  pub shows-of : (x : Expected) → Valid t x → Shows t x
+  shows-of AtHeader v = tt
+  shows-of (AtSymbol s) v = tt
+  shows-of (AtProduction p) v = tt
+  shows-of (AtEquation p q k) v = sound t e .formed p q k v .known
+  shows-of Ended v = tt
+
+  pub still-valid : (x : Expected) → Valid t x → Valid t (nextOf t x)
+  still-valid = next-valid t (sound t e .symbols .0) (sound t e .productions .0)
+
+-- the text from an expected frame on
+abbrev pub restText : List ℕ → Expected → List ℕ
+restText t x = texts t (restOf t x)
+
+module _ (t : List ℕ) (x : Expected) (v : Valid t x) where
+  pub rest-length : length (restText t x) ≡ length (textAt t x) + length (restText t (nextOf t x))
+  rest-length = ap length (text-next t x v) ∙ length-append (textAt t x) (restText t (nextOf t x))
+
+  -- fewer frames are left
+  pub rest-less : isOn x ≡ true → length (restOf t (nextOf t x)) < length (restOf t x)
+  rest-less on = rw (rest-next t x v) (by-frame x on)
+    where
+      by-frame : (y : Expected) → isOn y ≡ true → length (restOf t (nextOf t x)) < length (entries y ++ restOf t (nextOf t x))
+      by-frame AtHeader o = omega arith
+      by-frame (AtSymbol s) o = omega arith
+      by-frame (AtProduction p) o = omega arith
+      by-frame (AtEquation p q k) o = omega arith
+      by-frame Ended o = let z : _≡_ {A = ℕ} 0 1 = cc in absurd (omega arith)
+
+  -- room
+  pub room-stops : (left : ℕ) → left < length (textAt t x) → leb (length (restText t x)) left ≡ false
+  room-stops left h = lt-leb (length (restText t x)) left (omega (arith, rest-length))
+
+  pub room-goes : (left : ℕ) → length (textAt t x) ≤ left → leb (length (restText t x)) left ≡ leb (length (restText t (nextOf t x))) (left - length (textAt t x))
+  room-goes left h =
+      ⊎-elim
+      (λ k. lt-leb (length (restText t x)) left (omega (arith, rest-length)) ∙ sym (lt-leb (length (restText t (nextOf t x))) (left - length (textAt t x)) k))
+      (λ k. le-leb (length (restText t x)) left (omega (arith, rest-length)) ∙ sym (le-leb (length (restText t (nextOf t x))) (left - length (textAt t x)) k))
+      (lt-or-ge (left - length (textAt t x)) (length (restText t (nextOf t x))))
+
+  -- what is left to store once the expected frame is stored
+  pub stored-next : (l : List ℕ) (place : ℕ) → sets l place (restText t x) ≡ sets (sets l place (textAt t x)) (place + length (textAt t x)) (restText t (nextOf t x))
+  stored-next l place = ap (sets l place) (text-next t x v) ∙ sets-append (textAt t x) (restText t (nextOf t x)) l place
+
+-- at the end nothing is left
+pub rest-none : (t : List ℕ) (x : Expected) → isOn x ≡ false → restText t x ≡ []
+unfolding restOf texts
+rest-none t AtHeader e = let z : _≡_ {A = ℕ} 0 1 = cc in absurd (omega arith)
+rest-none t (AtSymbol s) e = let z : _≡_ {A = ℕ} 0 1 = cc in absurd (omega arith)
+rest-none t (AtProduction p) e = let z : _≡_ {A = ℕ} 0 1 = cc in absurd (omega arith)
+rest-none t (AtEquation p q k) e = let z : _≡_ {A = ℕ} 0 1 = cc in absurd (omega arith)
+rest-none t Ended e = refl
+
+pub rest-all : (t : List ℕ) → restText t AtHeader ≡ tableText t
+unfolding restOf tableText
+rest-all t = refl
+
+-- nodes
+pub nodes-next : (ps owns : List ℕ) (i : ℕ) → i < length ps → i < length owns
+    → nodesText (drop i ps) (drop i owns) ≡ textOf (Node (getD ps i 0) (getD owns i 0)) ++ nodesText (drop (i + 1) ps) (drop (i + 1) owns)
+unfolding nodesText
+nodes-next ps owns i h k = rw (add-one, drop-cons ps i 0 h, drop-cons owns i 0 k)
+
+pub nodes-none : (ps owns : List ℕ) → nodesText (drop (length ps) ps) owns ≡ []
+unfolding nodesText
+nodes-none ps owns = rw drop-length
+
+nodes-length : (ps owns : List ℕ) → length ps ≡ length owns → length (nodesText ps owns) ≡ 21 * length ps
+unfolding nodesText
+nodes-length [] owns e = refl
+nodes-length (p ∷ ps) [] e = absurd (omega arith)
+nodes-length (p ∷ ps) (o ∷ owns) e =
+    length-append (textOf (Node p o)) (nodesText ps owns) ∙ omega (arith, node-length p o, nodes-length ps owns (omega arith))
+
+pub tree-length : (ps owns : List ℕ) → length ps ≡ length owns → length (treeText ps owns) ≡ 7 + 21 * length ps
+unfolding treeText
+tree-length ps owns e = length-append (textOf (Load (length ps))) (nodesText ps owns) ∙ omega (arith, load-length (length ps), nodes-length ps owns e)
+
+pub tree-stored : (ps owns l : List ℕ) → sets l 0 (treeText ps owns) ≡ sets (sets l 0 (textOf (Load (length ps)))) 7 (nodesText ps owns)
+unfolding treeText
+tree-stored ps owns l =
+    let z : 0 + length (textOf (Load (length ps))) ≡ 7 = omega (arith, load-length (length ps)) in
+    sets-append (textOf (Load (length ps))) (nodesText ps owns) l 0
+    ∙ ap (λ (n : ℕ). sets (sets l 0 (textOf (Load (length ps)))) n (nodesText ps owns)) z
+
+-- a tree that is not refused
+pub record Handed (ps owns : List ℕ) : Type 0 where
+  pub few : length ps ≤ 512
+  pub equal : length ps ≡ length owns
+
+table-first : (t ps owns : List ℕ) → treeRefusal t ps owns ≡ 0 → judgeTable t ≡ 0
+unfolding treeRefusal
+table-first t ps owns e = or-none (judgeTable t) _ e .0
+
+pub handed : (t ps owns : List ℕ) → treeRefusal t ps owns ≡ 0 → Handed ps owns
+handed t ps owns e =
+    let j : judgeTable t ≡ 0 = table-first t ps owns e in
+    let few : length ps ≤ 512 = ⊎-elim (λ h. absurd (omega (arith, too-large t ps owns j h))) (λ h. h) (lt-or-ge 512 (length ps)) in
+    let low : length owns ≤ length ps = ⊎-elim (λ h. absurd (omega (arith, unequal t ps owns j few (λ k. omega arith)))) (λ h. h) (lt-or-ge (length ps) (length owns)) in
+    let high : length ps ≤ length owns = ⊎-elim (λ h. absurd (omega (arith, unequal t ps owns j few (λ k. omega arith)))) (λ h. h) (lt-or-ge (length owns) (length ps)) in
+    record { few = few; equal = omega arith }

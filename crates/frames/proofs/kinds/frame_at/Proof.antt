@@ -1,0 +1,27 @@
+-- The line that was found tells the step. Assumes nothing.
+use native.Mathlib.Omega.{arith}
+use mathlib.Core.Path.{_≡_}
+use Rattle.lines.specs.Text.{lineAt}
+use Rattle.lines.specs.declared.Line.the-variants.{Digits, Bad, End}
+use Rattle.lines.proofs.Rows.{line-says}
+use Rattle.frames.specs.Frames.{frameAt}
+use borrow.Author.Needs.{needs}
+use Rattle.frames.proofs.kinds.frame_at.Statement.{statement}
+use Rattle.frames.proofs.kinds.frame_at.Tie as tie
+
+pub frame-at-spec : {M : Type 1} → statement M
+unfolding frameAt
+frame-at-spec =
+    tie.close
+    (tie.spec
+    (λ c κs. search needs)
+    (λ c. search needs)
+    (λ c. search needs)
+    (λ c. search needs)
+    (λ c κs. let a = c .before .before .before .before .before .args in omega (arith, line-says (a .text .now) (a .place) (c .before .found .given .0 .0) (cc) .inside))
+    (λ c κs. search needs)
+    (λ c. let a = c .before .before .before .before .before .before .before .args in omega (arith, line-says (a .text .now) (a .place) (c .before .before .before .found .given .0 .0) (cc) .many))
+    (λ c. let a = c .before .before .before .before .before .before .before .args in omega (arith, line-says (a .text .now) (a .place) (c .before .before .before .found .given .0 .0) (cc) .inside, c .before .before .before .before .before .before .before .good))
+    (λ c. let a = c .before .before .before .before .args in let e : lineAt (a .text .now) (a .place) ≡ End = cc in rw e)
+    (λ c. let a = c .before .before .before .before .args in let e : lineAt (a .text .now) (a .place) ≡ Bad = cc in rw e)
+    (λ c. let a = c .before .before .before .before .before .before .before .args in let e : lineAt (a .text .now) (a .place) ≡ Digits (c .before .before .before .found .given .0 .0) = cc in rw e (cc)))

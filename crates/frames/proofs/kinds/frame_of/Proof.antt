@@ -1,0 +1,40 @@
+-- The arm that is taken tells the type. Assumes nothing.
+use mathlib.Core.Path.{_≡_}
+use borrow.Author.Tests.{lt-ltb, le-ltb, eq-eqb, ne-eqb}
+use Rattle.lines.specs.Hex.{numAt}
+use Rattle.frames.specs.Frames.{frameOf, kindOf}
+use borrow.Author.Needs.{needs}
+use Rattle.frames.proofs.kinds.frame_of.Statement.{statement}
+use Rattle.frames.proofs.kinds.frame_of.Tie as tie
+
+returns-9 : tie.Need-returns-9
+unfolding frameOf kindOf
+returns-9 c =
+    let r = c .before .match .rest in
+    let e = c .before .before .byte .ensures in
+    simp (← e, ne-eqb _ _ (r .1), ne-eqb _ _ (r .0 .1), ne-eqb _ _ (r .0 .0 .1), ne-eqb _ _ (r .0 .0 .0 .1), ne-eqb _ _ (r .0 .0 .0 .0 .1), ne-eqb _ _ (r .0 .0 .0 .0 .0 .1), ne-eqb _ _ (r .0 .0 .0 .0 .0 .0 .1), ne-eqb _ _ (r .0 .0 .0 .0 .0 .0 .0 .1)) (c .wrong .ensures)
+
+pub frame-of-spec : {M : Type 1} → statement M
+unfolding frameOf kindOf
+frame-of-spec =
+    tie.close
+    (tie.spec
+    (λ c κs. search needs)
+    (λ c κs. search needs)
+    (λ c κs. search needs)
+    (λ c κs. search needs)
+    (λ c κs. search needs)
+    (λ c κs. search needs)
+    (λ c κs. search needs)
+    (λ c κs. search needs)
+    (λ c κs. search needs)
+    (λ c κs. search needs)
+    (λ c. let a = c .before .before .before .before .args in let e : numAt 2 (a .text .now) (a .place) ≡ 1 = cc in rw e (c .header-frame .ensures))
+    (λ c. let a = c .before .before .before .before .args in let e : numAt 2 (a .text .now) (a .place) ≡ 2 = cc in rw e (c .symbol-frame .ensures))
+    (λ c. let a = c .before .before .before .before .args in let e : numAt 2 (a .text .now) (a .place) ≡ 3 = cc in rw e (c .production-frame .ensures))
+    (λ c. let a = c .before .before .before .before .args in let e : numAt 2 (a .text .now) (a .place) ≡ 4 = cc in rw e (c .equation-frame .ensures))
+    (λ c. let a = c .before .before .before .before .args in let e : numAt 2 (a .text .now) (a .place) ≡ 5 = cc in rw e (c .node-frame .ensures))
+    (λ c. let a = c .before .before .before .before .args in let e : numAt 2 (a .text .now) (a .place) ≡ 6 = cc in rw e (c .load-frame .ensures))
+    (λ c. let a = c .before .before .before .before .args in let e : numAt 2 (a .text .now) (a .place) ≡ 7 = cc in rw e (c .replace-frame .ensures))
+    (λ c. let a = c .before .before .before .before .args in let e : numAt 2 (a .text .now) (a .place) ≡ 8 = cc in rw e (c .dump-frame .ensures))
+    returns-9)

@@ -1,0 +1,5 @@
+pub mod Values
+pub mod Rows
+pub mod Window
+pub mod Out
+pub mod Fields

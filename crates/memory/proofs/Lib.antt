@@ -1,0 +1,6 @@
+pub mod Moves
+pub mod Placed
+pub mod Slots
+pub mod Arranged
+pub mod Numbered
+pub mod Fields

@@ -1,0 +1,30 @@
+-- After i turns the first i of the new ones are written. Assumes nothing.
+use mathlib.Core.Path.{_≡_, refl}
+use Prim.Native.Nat.{_-_}
+use native.Mathlib.Omega.{arith}
+use lib.ListN.{length}
+use Rattle.memory.proofs.Moves.{Pasting, pasting, pasting-next, pasted}
+use Rattle.memory.proofs.buffers.write_nodes.Statement.{statement}
+use Rattle.memory.proofs.buffers.write_nodes.Tie as tie
+
+abbrev Inv-loop : tie.InvT-loop
+Inv-loop held₀ at new i₀ held i = Pasting held₀ at new (length new) i held
+
+abbrev μ-loop : tie.MeasureT-loop
+μ-loop held₀ at new i₀ held i = length new - i
+
+pub write-nodes-spec : {M : Type 1} → statement M
+write-nodes-spec =
+    tie.close
+    (tie.spec
+    Inv-loop
+    μ-loop
+    (λ c. pasting _ _ _ _)
+    (λ c. omega arith)
+    (λ c. omega arith)
+    (λ c. omega arith)
+    (λ c. omega arith)
+    (λ c. omega arith)
+    (λ c. let s = c .before .before .before in let l = c .before .before .loop in let d = s .args .held .now in pasting-next d (s .args .at) (s .args .new .now) (length (s .args .new .now)) (l .i) (l .held) (s .pre) (omega arith) (l .inv) _ refl (c .before .loop-test .taken))
+    (λ c. c .before .loop .inv .long)
+    (λ c. let s = c .before .before in let l = c .before .loop in let d = s .args .held .now in pasted d (s .args .at) (s .args .new .now) (length (s .args .new .now)) (l .i) (l .held) (s .pre) (omega arith) (l .inv) (omega arith)))

@@ -1,0 +1,268 @@
+//! The held tree and its sets: load, replacement and rounds.
+
+use std::ops::Range;
+
+use crate::circles::{Circle, Circles};
+use crate::frames::{Done, Node, Round};
+use crate::ranks::Ranks;
+use crate::refusal::Refusal;
+use crate::rows::{Place, Row};
+use crate::sets::{Formula, Set};
+use crate::table::Table;
+use crate::tree::{judge, NODES};
+use crate::wiring::Wiring;
+
+/// The nodes that a command hands in. Those behind the limit are counted and not kept: such a
+/// part is refused whatever they say.
+#[derive(Default)]
+pub struct Part {
+    pub count: usize,
+    pub nodes: Vec<Node>,
+}
+
+pub enum Step {
+    Round(Round),
+    Done(Done),
+}
+
+/// How far the open update has come.
+#[derive(Default)]
+struct Update {
+    /// The places that didn't exist before: all in a load, those below the point in a
+    /// replacement. What lies outside survives.
+    new: Range<Place>,
+    rank: usize,
+    round: u32,
+    circles: u16,
+    evaluations: u32,
+    changed: u16,
+}
+
+pub struct Engine {
+    table: Table,
+    nodes: Vec<Node>,
+    wiring: Wiring,
+    circles: Circles,
+    ranks: Ranks,
+    sets: Row<Set>,
+    update: Update,
+    /// By circle: whether it is due.
+    due: Vec<bool>,
+    /// What the members of the circle at work had before the update. Only worked circles
+    /// alter, so nothing else needs a before value.
+    before: Vec<Set>,
+    /// What a round has computed: stored together, when all is computed.
+    computed: Vec<Set>,
+}
+
+impl Engine {
+    pub fn new(table: Table) -> Self {
+        Engine {
+            table,
+            nodes: Vec::new(),
+            wiring: Wiring::new(),
+            circles: Circles::default(),
+            ranks: Ranks::default(),
+            sets: Row::new(),
+            update: Update::default(),
+            due: Vec::new(),
+            before: Vec::new(),
+            computed: Vec::new(),
+        }
+    }
+
+    pub fn load(&mut self, part: &Part) -> Result<(), Refusal> {
+        if part.count > NODES {
+            return Err(Refusal::TooManyNodes);
+        }
+        judge(&self.table, 0, &part.nodes)?;
+        self.nodes.clone_from(&part.nodes);
+        self.rewire();
+        self.sets.clear(self.wiring.places(), 0);
+        self.open(0..self.wiring.places());
+        Ok(())
+    }
+
+    pub fn replace(&mut self, point: usize, part: &Part) -> Result<(), Refusal> {
+        if self.nodes.is_empty() {
+            return Err(Refusal::NoTree);
+        }
+        let root = *self.nodes.get(point).ok_or(Refusal::PointOutsideTree)?;
+        let end = point + self.wiring.span(point);
+        if self.nodes.len() - (end - point) + part.count > NODES {
+            return Err(Refusal::TooManyNodes);
+        }
+        judge(&self.table, self.table.production_of(&root).left, &part.nodes)?;
+        let old = self.below(point..end);
+        let places = self.wiring.places();
+        self.nodes.splice(point..end, part.nodes.iter().copied());
+        self.rewire();
+        let new = self.below(point..point + part.count);
+        self.shift(old.end..places, new.end);
+        self.sets.part_mut(new.start, new.end).fill(0);
+        self.open(new);
+        self.sow(self.synthesized(point));
+        Ok(())
+    }
+
+    /// One round of the first due circle, or done.
+    pub fn step(&mut self) -> Step {
+        let Some(circle) = self.next_due() else {
+            let Update { circles, evaluations, changed, .. } = self.update;
+            return Step::Done(Done { circles, evaluations, changed });
+        };
+        let least = self.circles.least(circle);
+        let size = self.circles.members(circle).len() as u16;
+        self.update.round += 1;
+        self.update.evaluations += u32::from(size);
+        let round = self.update.round;
+        let closed = if size == 1 && !self.wiring.reads_itself(least) {
+            self.work_lone(least);
+            true
+        } else {
+            self.climb(circle)
+        };
+        if closed {
+            self.update.circles += 1;
+            self.update.rank += 1;
+            self.update.round = 0;
+        }
+        Step::Round(Round { least: self.wiring.instances()[least], round, size, closed })
+    }
+
+    /// Whether a tree is held.
+    pub fn holds(&self) -> bool {
+        !self.nodes.is_empty()
+    }
+
+    /// The instances and their values, rising.
+    pub fn readings(&self) -> impl Iterator<Item = (u16, Set)> + '_ {
+        let places = 0..self.wiring.places();
+        places.map(|place| (self.wiring.instances()[place], self.sets[place]))
+    }
+
+    fn rewire(&mut self) {
+        self.wiring.rebuild(&self.table, &self.nodes);
+        let (formulas, places) = (self.wiring.formulas(), self.wiring.places());
+        self.circles.rebuild(formulas, places);
+        self.ranks.rebuild(formulas, &self.circles, places);
+    }
+
+    /// The places of all nodes of a subtree but its root.
+    fn below(&self, subtree: Range<usize>) -> Range<Place> {
+        self.wiring.first(subtree.start + 1)..self.wiring.first(subtree.end)
+    }
+
+    fn synthesized(&self, node: usize) -> Range<Place> {
+        let symbol = self.table.symbol_of(self.table.production_of(&self.nodes[node]));
+        let first = self.wiring.first(node);
+        first..first + Place::from(symbol.synthesized)
+    }
+
+    /// Moves the sets of the nodes behind a part to where those nodes now are.
+    fn shift(&mut self, behind: Range<Place>, to: Place) {
+        let reach = behind.end.max(to + behind.len() as Place);
+        self.sets.reach(reach, 0);
+        if behind.start != to {
+            let range = usize::from(behind.start)..usize::from(behind.end);
+            self.sets.part_mut(0, reach).copy_within(range, to.into());
+        }
+    }
+
+    fn open(&mut self, new: Range<Place>) {
+        self.due.clear();
+        self.due.resize(self.circles.count().into(), false);
+        self.sow(new.clone());
+        self.update = Update { new, ..Update::default() };
+    }
+
+    fn sow(&mut self, places: Range<Place>) {
+        for place in places {
+            self.due[usize::from(self.circles.of(place))] = true;
+        }
+    }
+
+    /// The first due circle from the recorded rank on, which becomes its rank.
+    fn next_due(&mut self) -> Option<Circle> {
+        loop {
+            let circle = self.ranks.circle(self.update.rank)?;
+            if self.due[usize::from(circle)] {
+                return Some(circle);
+            }
+            self.update.rank += 1;
+        }
+    }
+
+    /// The only round of a lone circle: what it reads is finished.
+    fn work_lone(&mut self, place: Place) {
+        let value = self.wiring.formulas()[place].value(|argument| self.sets[argument]);
+        let before = self.sets[place];
+        self.sets[place] = value;
+        if value != before {
+            self.tell(place);
+        }
+    }
+
+    /// One round of another circle; answers whether it closes.
+    fn climb(&mut self, circle: Circle) -> bool {
+        if self.update.round == 1 {
+            self.begin(circle);
+        }
+        let members = self.circles.members(circle);
+        compute(members, self.wiring.formulas(), &self.sets, &mut self.computed);
+        let closed = !store(members, &self.computed, &mut self.sets);
+        if closed {
+            self.finish(circle);
+        }
+        closed
+    }
+
+    /// Keeps a circle's before values and empties it: a climb from the values held would keep
+    /// reasons that only hold each other up.
+    fn begin(&mut self, circle: Circle) {
+        let members = self.circles.members(circle);
+        self.before.clear();
+        self.before.extend(members.iter().map(|&member| self.sets[member]));
+        for &member in members {
+            self.sets[member] = 0;
+        }
+        self.computed.resize(members.len(), 0);
+    }
+
+    fn finish(&mut self, circle: Circle) {
+        for at in 0..self.before.len() {
+            let member = self.circles.members(circle)[at];
+            if self.sets[member] != self.before[at] {
+                self.tell(member);
+            }
+        }
+    }
+
+    /// A finished set isn't as before: it counts as changed, and those who read it are due.
+    fn tell(&mut self, place: Place) {
+        if !self.update.new.contains(&place) {
+            self.update.changed += 1;
+        }
+        for reader in self.ranks.readers(place) {
+            self.due[usize::from(self.circles.of(reader))] = true;
+        }
+    }
+}
+
+/// Computes each member from the values before this round.
+fn compute(members: &[Place], formulas: &[Formula<Place>], sets: &[Set], computed: &mut [Set]) {
+    for (value, &member) in computed.iter_mut().zip(members) {
+        *value = formulas[usize::from(member)].value(|place| sets[usize::from(place)]);
+    }
+}
+
+/// Stores what a round computed; answers whether anything altered.
+fn store(members: &[Place], computed: &[Set], sets: &mut [Set]) -> bool {
+    let mut altered = false;
+    for (&value, &member) in computed.iter().zip(members) {
+        let set = &mut sets[usize::from(member)];
+        altered |= *set != value;
+        *set = value;
+    }
+    altered
+}

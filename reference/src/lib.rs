@@ -1,0 +1,19 @@
+//! The unproved twin of the Thrummisk session program.
+//!
+//! It is written from the same paper as the proved program and shares no line with it: where
+//! the two differ on a session, one of them has misread the paper. It is also what the proved
+//! program's instruction counts are measured against.
+
+pub mod circles;
+pub mod engine;
+pub mod frames;
+pub mod lines;
+pub mod ranks;
+pub mod ready;
+pub mod refusal;
+pub mod rows;
+pub mod session;
+pub mod sets;
+pub mod table;
+pub mod tree;
+pub mod wiring;

@@ -1,0 +1,13 @@
+//! Random sessions from a seed: sound and damaged, small and at the limits.
+
+pub mod chance;
+pub mod climb;
+pub mod commands;
+pub mod damage;
+pub mod day;
+pub mod growth;
+pub mod rules;
+pub mod session;
+pub mod survey;
+pub mod text;
+pub mod trial;

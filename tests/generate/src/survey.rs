@@ -1,0 +1,84 @@
+//! What a run of random sessions met: shows that it wasn't all small or all refused.
+
+use std::collections::BTreeMap;
+use std::fmt;
+
+use crate::session::{Session, Size};
+use crate::text::frame_of;
+
+/// Counts by what was counted, and greatest values by what was measured.
+#[derive(Default)]
+pub struct Survey {
+    counts: BTreeMap<String, u64>,
+    greatest: BTreeMap<&'static str, u64>,
+}
+
+impl Survey {
+    /// Takes in a session and the answer to it.
+    pub fn add(&mut self, session: &Session, answer: &[u8]) {
+        let frames: Vec<Vec<u8>> = answer.split(|&byte| byte == b'\n').map(frame_of).collect();
+        let of_kind = |kind: u8| frames.iter().filter(move |frame| frame.first() == Some(&kind));
+        let greatest = |kind: u8, from: usize, to: usize| {
+            of_kind(kind).map(|frame| number(frame.get(from..to))).max().unwrap_or(0)
+        };
+        let (rounds, updates) = (of_kind(0x11).count(), of_kind(0x12).count());
+        let (round, size) = (greatest(0x11, 3, 6), greatest(0x11, 6, 8));
+        self.count("sessions", 1);
+        self.count("sessions damaged", session.damaged.into());
+        self.count("sessions at the limit of instances", (session.size == Size::Limit).into());
+        self.count("sessions with an update done", (updates > 0).into());
+        self.count("sessions with a circle of 1,000 or more", (size >= 1000).into());
+        self.count("sessions with a dump", (of_kind(0x13).count() > 0).into());
+        self.count("updates done", updates as u64);
+        self.count("rounds made", rounds as u64);
+        self.measure("bytes of a text", session.text.len() as u64);
+        self.measure("instances of a circle", size);
+        self.measure("rounds of a circle", round);
+        self.measure("evaluations of an update", greatest(0x12, 3, 7));
+        self.count_refusals(of_kind(0x1f).map(|frame| number(frame.get(1..2))).collect());
+    }
+
+    pub fn join(&mut self, other: Survey) {
+        for (what, count) in other.counts {
+            self.count(&what, count);
+        }
+        for (what, value) in other.greatest {
+            self.measure(what, value);
+        }
+    }
+
+    /// A session counts once for each number that it was given.
+    fn count_refusals(&mut self, mut numbers: Vec<u64>) {
+        numbers.sort_unstable();
+        numbers.dedup();
+        self.count("sessions with no refusal", numbers.is_empty().into());
+        for number in numbers {
+            self.count(&format!("sessions with refusal {number:2}"), 1);
+        }
+    }
+
+    fn count(&mut self, what: &str, count: u64) {
+        *self.counts.entry(what.to_string()).or_default() += count;
+    }
+
+    fn measure(&mut self, what: &'static str, value: u64) {
+        let greatest = self.greatest.entry(what).or_default();
+        *greatest = value.max(*greatest);
+    }
+}
+
+fn number(bytes: Option<&[u8]>) -> u64 {
+    bytes.unwrap_or_default().iter().fold(0, |number, &byte| number << 8 | u64::from(byte))
+}
+
+impl fmt::Display for Survey {
+    fn fmt(&self, to: &mut fmt::Formatter) -> fmt::Result {
+        for (what, count) in &self.counts {
+            writeln!(to, "{what:45}{count:>12}")?;
+        }
+        for (what, value) in &self.greatest {
+            writeln!(to, "most {what:40}{value:>12}")?;
+        }
+        Ok(())
+    }
+}
