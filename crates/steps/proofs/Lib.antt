@@ -1,0 +1,5 @@
+pub mod Looking
+pub mod Rounding
+pub mod Counting
+pub mod Making
+pub mod Continuing
