@@ -1,3 +1,4 @@
+pub mod Placing
 pub mod Looking
 pub mod Rounding
 pub mod Counting

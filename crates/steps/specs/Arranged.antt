@@ -6,8 +6,9 @@ use Prim.Native.Nat.{ℕ, suc, _≤_, _<_}
 use lib.Dec.{eqb}
 use lib.ListN.{length, getD}
 use lib.Seq.{slice}
-use Rattle.circles.specs.Arrays.{graphOf}
-use Rattle.circles.specs.Ranked.{member, ranked}
+use Rattle.circles.specs.Graph.{Graph}
+use Rattle.circles.specs.Arrays.{graphOf, joined, Laid}
+use Rattle.circles.specs.Ranked.{member, ranked, labelsOf, labelAt}
 use Rattle.climb.specs.Circuit.{circleAt}
 
 -- the arrays hold the circles R by rank: the members of circle i stand from ends[i] up to ends[i + 1], its least instance first, and are
@@ -30,6 +31,20 @@ circlesIn n a b = ranked (graphOf n a b)
 
 abbrev pub Circles : ℕ → List ℕ → List ℕ → List ℕ → List ℕ → List ℕ → ℕ → Type 0
 Circles n a b label members ends count = Arranged (circlesIn n a b) n a b label members ends count
+
+-- what the arrays come to lies in the circles themselves: none is empty, their members are declared, no more than there are slots, and a
+-- slot is a member exactly where its label is the first of the circle
+pub record Listed (G : Graph) (R : List (List ℕ)) : Type 0 where
+  pub count : length R ≤ 4092
+  pub total : length (joined R) ≤ G .size
+  pub some : (i : ℕ) → i < length R → 0 < length (circleAt R i)
+  pub declared : (i x : ℕ) → member (circleAt R i) x ≡ true → G .declared x ≡ true
+  pub placed : (i : ℕ) → i < length R → (y : ℕ) → y < G .size → member (circleAt R i) y ≡ eqb (labelAt (labelsOf G) y) (getD (circleAt R i) 0 0)
+
+-- what `rank_circles` writes is arranged
+abbrev pub LaidArranged : Type 0
+LaidArranged = (n : ℕ) (a b label₀ members₀ ends₀ label members ends : List ℕ) (count : ℕ) → Laid (graphOf n a b) label₀ members₀ ends₀ label members ends count
+    → Listed (graphOf n a b) (circlesIn n a b) → Circles n a b label members ends count
 
 -- "At most 4,092 instances exist": 8 × 512 slots, each with its set, its before value and its place for the value that a round computes
 pub record Lent (n : ℕ) (before sets values : List ℕ) : Type 0 where
