@@ -3,7 +3,7 @@ use mathlib.Core.Path.{_≡_, refl, sym, ap, _∙_}
 use mathlib.Core.Bool.{Bool, true, false, true≢false}
 use mathlib.Core.Logic.{⊎-elim}
 use mathlib.Core.List.{List, [], _∷_}
-use Prim.Native.Nat.{ℕ, zero, suc, _+_, _-_, _≤_, _<_, zero-le, min}
+use Prim.Native.Nat.{ℕ, suc, _+_, _-_, _≤_, _<_, zero-le}
 use native.Mathlib.Nat.{add-zero, add-suc, zero-add, suc-add, min-le-right}
 use native.Mathlib.Omega.{arith}
 use lib.Dec.{ltb}
@@ -19,9 +19,9 @@ use Rattle.update.specs.declared.Answer.{Answer}
 use Rattle.update.specs.declared.Answer.the-variants.{Round, Done, Refused}
 use Rattle.update.specs.declared.Run.the-variants.{Paused, Finished}
 use Rattle.update.proofs.Answer as A
-use Rattle.update.specs.Records.{isOpen, shut}
+use Rattle.update.specs.Records.{shut}
 use Rattle.update.specs.Within.{WithinLimits}
-use Rattle.update.specs.Steps.{Outcome, round, done, roundNumber, fromOf, toOf, closedOf, roundRecord, Made, roundMade, doneMade, dueFrom, stepOf, Ran, onward, runOf}
+use Rattle.update.specs.Steps.{Outcome, round, done, roundNumber, roundRecord, roundMade, doneMade, dueFrom, stepOf, Ran, runOf}
 use Rattle.update.specs.Calls.{Said, refused, said, answerSays}
 use Rattle.steps.specs.Arranged.{Lent}
 use Rattle.steps.specs.Says.{StepSays, RunSays}

@@ -1,11 +1,9 @@
 -- A step by the arrays is the step of the system and the circles that they hold. Assumes nothing.
-use mathlib.Core.Path.{_≡_, refl, sym, ap, _∙_}
+use mathlib.Core.Path.{_≡_, refl, sym, _∙_}
 use mathlib.Core.Bool.{Bool}
 use mathlib.Core.List.{List}
-use Prim.Native.Nat.{ℕ, suc, _+_, _-_, _≤_, _<_}
-use native.Mathlib.Nat.{le-of-lt, le-trans}
-use native.Mathlib.Omega.{arith}
-use lib.Dec.{ltb}
+use Prim.Native.Nat.{ℕ, _-_, _≤_, _<_}
+use native.Mathlib.Nat.{le-of-lt}
 use borrow.Author.Tests.{lt-ltb, le-ltb}
 use lib.ListN.{length, getD}
 use lib.Seq.{slice, slice-cons, length-slice}
@@ -17,7 +15,7 @@ use Rattle.update.specs.declared.Record.{Record}
 use Rattle.update.specs.declared.Answer.{Answer}
 use Rattle.update.specs.declared.Answer.the-variants.{Round, Done}
 use Rattle.update.specs.Records.{shut}
-use Rattle.update.specs.Steps.{changedOf, roundNumber, fromOf, toOf, closedOf, roundRecord, roundMade, doneMade, dueFrom, stepOf}
+use Rattle.update.specs.Steps.{changedOf, roundNumber, roundRecord, roundMade, doneMade, dueFrom, stepOf}
 use Rattle.steps.specs.Arranged.{Arranged, Lent, Looks}
 use Rattle.steps.specs.Tests.{reading}
 use Rattle.steps.specs.Says.{RoundSays, StepSays}

@@ -1,15 +1,14 @@
 -- What is laid out circle behind circle is arranged: each circle stands between its ends. Assumes nothing.
 use mathlib.Core.Path.{_≡_, refl, sym, ap, _∙_}
-use mathlib.Core.Bool.{Bool, cond}
-use mathlib.Core.List.{List, [], _∷_, _++_, map, append-assoc}
+use mathlib.Core.Bool.{cond}
+use mathlib.Core.List.{List, [], _∷_, _++_, append-assoc}
 use Prim.Native.Nat.{ℕ, zero, suc, _+_, _≤_, _<_}
-use native.Mathlib.Nat.{zero-add}
 use native.Mathlib.Omega.{arith}
 use lib.Dec.{eqb}
 use lib.ListN.{length, getD, drop, length-append, length-map, List·getD-append}
 use lib.Seq.{slice, take-at, drop-at}
 use Rattle.circles.specs.Graph.{Graph}
-use Rattle.circles.specs.Arrays.{graphOf, joined, endsFrom, over, Laid}
+use Rattle.circles.specs.Arrays.{graphOf, joined, endsFrom, over}
 use Rattle.circles.specs.Ranked.{upFrom, slots, reachings, labelIn, labelsBy, labelsOf, labelAt}
 use Rattle.climb.specs.Circuit.{circleAt}
 use Rattle.climb.proofs.Places.{default-is}

@@ -1,15 +1,15 @@
 -- A round of a circle, emptied first where it must be. Assumes nothing.
 use mathlib.Core.Path.{_≡_, refl, sym, ap, _∙_}
-use mathlib.Core.Bool.{Bool, true, false, cond, not, _&&_, _||_, and-false, true≢false}
+use mathlib.Core.Bool.{Bool, true, false, cond, not, _&&_, and-false, true≢false}
 use mathlib.Core.Logic.{⊎-elim}
 use mathlib.Core.List.{List, [], _∷_}
-use Prim.Native.Nat.{ℕ, zero, suc, _+_, _≤_, _<_}
+use Prim.Native.Nat.{ℕ, suc, _+_, _<_}
 use native.Mathlib.Omega.{arith}
 use lib.Dec.{eqb}
 use borrow.Author.Tests.{eq-eqb, ne-eqb, eqb-true}
 use lib.ListN.{length, getD}
 use lib.Seq.{slice, length-slice}
-use Rattle.circles.specs.Ranked.{member, allOf, loneOf}
+use Rattle.circles.specs.Ranked.{member, loneOf}
 use Rattle.climb.specs.System.{System, graphOf}
 use Rattle.climb.specs.Memory.{at, emptyOn, roundOn, stillOn, Within}
 use Rattle.climb.specs.Wired.{Span}

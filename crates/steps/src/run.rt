@@ -3,7 +3,9 @@ use super::step::step_in;
 use update::Answer;
 use update::Record;
 use update::Run;
+ghost use mathlib.Core.Path.{_≡_};
 ghost use Rattle.climb.specs.Wired.{wired, Wiring};
+ghost use Rattle.update.specs.declared.Run.the-variants.{Finished};
 ghost use Rattle.update.specs.Within.{WithinLimits};
 ghost use Rattle.update.specs.Steps.{runOf};
 ghost use Rattle.steps.specs.Arranged.{circlesIn, Circles, Lent};
@@ -12,6 +14,21 @@ ghost use Rattle.steps.specs.Says.{RunSays};
 pub struct Advanced {
     pub answer: Run,
     pub record: Record,
+}
+
+// Done, after so many rounds.
+fn finished(rounds: u64, circles: u64, evaluations: u64, changed: u64, next: Record) -> Advanced
+    ensures { λ d. ⌜ (d .answer ≡ Finished rounds circles evaluations changed) × (d .record ≡ next) ⌝ }
+{
+    Advanced {
+        answer: Run::Finished {
+            rounds: rounds,
+            circles: circles,
+            evaluations: evaluations,
+            changed: changed,
+        },
+        record: next,
+    }
 }
 
 // Steps until done, or until the budget of rounds is used up.
@@ -66,15 +83,7 @@ pub fn run_in<'a>(
             evaluations,
             changed,
         } = answer {
-            return Advanced {
-                answer: Run::Finished {
-                    rounds: rounds,
-                    circles: circles,
-                    evaluations: evaluations,
-                    changed: changed,
-                },
-                record: next,
-            };
+            return finished(rounds, circles, evaluations, changed, next);
         }
         work = next;
         rounds += 1;

@@ -8,7 +8,6 @@ use super::rounds::round_at;
 use update::Answer;
 use update::Open;
 use update::Record;
-ghost use mathlib.Core.Path.{_≡_};
 ghost use Prim.Native.Nat.{_<_, _≤_};
 ghost use lib.ListN.{length};
 ghost use lib.Seq.{slice};

@@ -1,10 +1,10 @@
 -- `changed`: what is left to count falls slot by slot. Assumes nothing.
-use mathlib.Core.Path.{_≡_, refl, sym, _∙_}
-use Prim.Native.Nat.{_+_, _-_, _≤_, _<_, zero-le}
+use mathlib.Core.Path.{_≡_, sym, _∙_}
+use Prim.Native.Nat.{_+_, _-_, _≤_, zero-le}
 use native.Mathlib.Nat.{zero-add}
 use native.Mathlib.Numerals.{add-one}
 use native.Mathlib.Omega.{arith}
-use Rattle.steps.specs.Tests.{countedIn, oneIf}
+use Rattle.steps.specs.Tests.{countedIn}
 use Rattle.steps.proofs.Counting.{one-most, changed-load, restFrom, rest-on, changed-is}
 use borrow.Author.Needs.{needs}
 use Rattle.steps.proofs.changed.changed.Statement.{statement}

@@ -1,10 +1,7 @@
 -- `counted`: not declared, or one of the part, or compared. Assumes nothing.
 use mathlib.Core.Path.{_≡_, sym, _∙_}
-use mathlib.Core.Bool.{true, false}
-use Prim.Native.Nat.{_<_}
 use native.Mathlib.Nat.{le-trans}
-use lib.ListN.{length, getD}
-use lib.Dec.{eqb}
+use lib.ListN.{getD}
 use borrow.Author.Tests.{lt-ltb, eq-eqb, ne-eqb}
 use Rattle.climb.proofs.Places.{default-is}
 use borrow.Author.Needs.{needs}

@@ -1,10 +1,9 @@
 -- `is_due`: what is left to test falls member by member. Assumes nothing.
 use mathlib.Core.Path.{_≡_, refl, sym, _∙_}
-use Prim.Native.Nat.{_<_, _-_, _≤_}
+use Prim.Native.Nat.{_-_}
 use native.Mathlib.Nat.{le-refl}
 use native.Mathlib.Numerals.{add-one}
 use native.Mathlib.Omega.{arith}
-use lib.ListN.{length}
 use lib.Seq.{slice}
 use Rattle.climb.specs.Memory.{at}
 use Rattle.climb.specs.Wired.{Span}

@@ -1,7 +1,5 @@
 -- `reads_moved`: the first argument, and then the second. Assumes nothing.
 use mathlib.Core.Path.{sym, _∙_}
-use Prim.Native.Nat.{_<_}
-use lib.ListN.{length}
 use native.Mathlib.Nat.{le-trans}
 use Rattle.climb.specs.Memory.{at}
 use Rattle.steps.specs.Tests.{movedIn}

@@ -1,5 +1,4 @@
 -- `round_at`: the round from the sets made ready; a lone circle closes at once. Assumes nothing.
-use mathlib.Core.Path.{_≡_, sym, _∙_}
 use Prim.Native.Nat.{_≤_}
 use native.Mathlib.Nat.{le-trans}
 use lib.ListN.{length}

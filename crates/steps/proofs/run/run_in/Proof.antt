@@ -1,5 +1,5 @@
 -- `run_in`: what is left of the run falls round by round. Assumes nothing.
-use mathlib.Core.Path.{_≡_, refl, sym, _∙_}
+use mathlib.Core.Path.{_≡_, refl}
 use mathlib.Core.List.{List}
 use Prim.Native.Nat.{ℕ, _+_, _-_, _≤_, _<_, zero-le, _^_}
 use native.Mathlib.Numerals.{add-one}
@@ -41,9 +41,10 @@ step-in-requires c κs =
 
 returns : tie.Need-returns Inv-loop μ-loop
 returns c =
-    let s = c .before .before .before .before .before .before .before .before .before .before .before .before .before .before .before .before .before .before .before .before .before .before .before .before in
-    let l = c .before .before .before .before .before .before .before .before .before .before .before .before .loop in
-    left-done (S s) (R s) (s .args .before .now) (s .args .budget) (s .args .r) (s .args .sets .now) (l .rounds) (l .work) (l .sets) _ _ _ _ _ _ (c .before .before .before .before .before .before .before .before .before .before .before .loop-test .taken) (l .inv .4) (c .before .before .before .before .before .before .before .before .step-in .ensures) (c .before .answer .given .1)
+    let s = c .before .before .before .before .before .before .before .before .before .before .before .before .before .before .before .before .before .before .before .before .before .before .before .before .before in
+    let l = c .before .before .before .before .before .before .before .before .before .before .before .before .before .loop in
+    let f = c .finished .ensures in
+    rw (f .0, f .1) (left-done (S s) (R s) (s .args .before .now) (s .args .budget) (s .args .r) (s .args .sets .now) (l .rounds) (l .work) (l .sets) _ _ _ _ _ _ (c .before .before .before .before .before .before .before .before .before .before .before .before .loop-test .taken) (l .inv .4) (c .before .before .before .before .before .before .before .before .before .step-in .ensures) (c .before .before .answer .given .1))
 
 add-rounds : tie.Need-add-rounds Inv-loop μ-loop
 add-rounds c =
@@ -78,6 +79,7 @@ run-in-spec =
     loop-holds
     step-in-requires
     (λ c. search needs)
+    (λ c κs. search needs)
     (λ c. search needs)
     (λ c. search needs)
     returns

@@ -1,6 +1,5 @@
 -- `make_round`: the round, its number and the record after it. Assumes nothing.
 use mathlib.Core.Path.{refl}
-use lib.Seq.{slice}
 use Rattle.climb.specs.Wired.{wired}
 use Rattle.steps.proofs.Making.{made-round}
 use borrow.Author.Needs.{needs}
