@@ -13,7 +13,7 @@ use Rattle.climb.specs.Circuit.{sumTo, circleAt, dueOf, afterOf, workedOf, roun
 use Rattle.climb.specs.Memory.{at}
 use Rattle.climb.specs.CircuitLaws.{Limits}
 use Rattle.climb.proofs.Sums.{sum-mono}
-use Rattle.climb.proofs.Finishing.{final-least, all-final, load-most, load-kept, all-limits}
+use Rattle.climb.proofs.Finishing.{final-least, all-final, load-most, load-kept, all-limits, lawful-circles}
 use Rattle.update.specs.declared.Record.{Record}
 use Rattle.update.specs.Records.{isLoad, shut, working}
 use Rattle.update.specs.Within.{WithinLimits}
@@ -108,7 +108,7 @@ pauses S R r before B n h = pauses-at S R r before B n h
 pub finishes : AllFinish
 finishes S R r before B n h =
     let d = done-at S R r before B n h in
-    let f = all-final S (B .lawful) R (B .ranked) (sownOf r) (at before) in
+    let f = all-final S R (lawful-circles S (B .lawful) R) (B .ranked) (sownOf r) (at before) in
     record {
       rounds = omega (arith, d .rounds);
       ending = d .ending;
@@ -175,7 +175,7 @@ load-evaluates S R r t b b′ B B′ k h = rw (load-sown t h) (load-most S (B .l
 
 module _ (S : System) (R : List (List ℕ)) (r : Record) (before : List ℕ) (B : Begins S R r before) where
   limits : Limits S R (sownOf r) (at before)
-  limits = all-limits S (B .lawful) R (B .ranked) (sownOf r) (at before) (B .small)
+  limits = all-limits S R (lawful-circles S (B .lawful) R) (B .ranked) (sownOf r) (at before) (B .small)
 
   below-at : (i k : ℕ) (v : Assignment) → i ≤ length R → Phase S R (sownOf r) (at before) i k v → Below (recordAt S R r before i k)
   below-at i k v n g = record { rank = omega (arith, B .ranked .count); round = few k g; circles = le-trans c (limits .circles); evaluations = evals k g }

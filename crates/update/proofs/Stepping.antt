@@ -22,7 +22,7 @@ use Rattle.climb.proofs.Stages.{stage-out}
 use Rattle.climb.proofs.Rounds.{still-means}
 use Rattle.climb.proofs.Sums.{sum-mono}
 use Rattle.climb.proofs.Working.{due-agree, after-worked, climbs-at, adds, passed}
-use Rattle.climb.proofs.Finishing.{all-limits}
+use Rattle.climb.proofs.Finishing.{all-limits, lawful-circles}
 use Rattle.climb.proofs.Storing.{length-stores, in-memory}
 use Rattle.update.specs.declared.Record.{Record}
 use Rattle.update.specs.Records.{shut, working}
@@ -140,7 +140,7 @@ module _ (S : System) (R : List (List ℕ)) (r : Record) (before : List ℕ) (B 
   after = afterOf S R (sownOf r) (at before)
 
   climb : (i : ℕ) → Climbs S (circleAt R i) (after i)
-  climb i = climbs-at S R sown b (B .lawful) (B .small) i
+  climb i = climbs-at S R sown b (lawful-circles S (B .lawful) R) (B .small) i
 
   within : (i : ℕ) (s : List ℕ) → length s ≡ length before → Within (circleAt R i) s
   within i s p x m = omega (arith, B .lawful .bound x (B .ranked .declared i x m), B .room)
@@ -198,7 +198,7 @@ module _ (S : System) (R : List (List ℕ)) (r : Record) (before : List ℕ) (B 
       flag = round-flag i j s p f g
 
       limits : Limits S R sown b
-      limits = all-limits S (B .lawful) R (B .ranked) sown b (B .small)
+      limits = all-limits S R (lawful-circles S (B .lawful) R) (B .ranked) sown b (B .small)
 
       few : min (e + length C) 1073745920 ≡ e + length C
       few = min-eq-left (omega (arith, limits .midst i j l w f))
@@ -313,7 +313,7 @@ module _ (S : System) (R : List (List ℕ)) (r : Record) (before : List ℕ) (B 
       let c = circlesTo S R sown b i in
       let e = evaluationsTo S R sown b i + length (circleAt R i) * suc k in
       let q : dueFrom S R (working r i (suc k) c e) before s ≡ i = stays-due i (suc k) c e s (suc k) w v in
-      let h : suc (suc k) ≤ 262145 = omega (arith, all-limits S (B .lawful) R (B .ranked) sown b (B .small) .rounds i l) in
+      let h : suc (suc k) ≤ 262145 = omega (arith, all-limits S R (lawful-circles S (B .lawful) R) (B .ranked) sown b (B .small) .rounds i l) in
       inl (rw (step-round i (suc k) c e s i (suc (suc k)) q l (round-next r i (suc k) c e h))
       (going t i (suc k) i (suc k) c e s l w f p (climbing l w o f v) ht refl refl))
 
