@@ -98,9 +98,9 @@ module _ (t u : List ℕ) (a b : ℕ) (only : Only t u a b) where
         record {
           production = production-same (p .production);
           equations = λ q k l m.
-          let l′ : q ≤ childCount t i = omega (arith, arity-same) in
-          let m′ : k < defined t i q = omega (arith, defined-same h q (s .small q l′)) in
-          equation-same h (p .production) q k (o q k (omega (arith, s .arity)) (omega (arith, s .few q l′))) (p .equations q k l′ m′);
+              let l′ : q ≤ childCount t i = omega (arith, arity-same) in
+              let m′ : k < defined t i q = omega (arith, defined-same h q (s .small q l′)) in
+              equation-same h (p .production) q k (o q k (omega (arith, s .arity)) (omega (arith, s .few q l′))) (p .equations q k l′ m′);
         }
 
 -- the whole table
@@ -280,4 +280,3 @@ goes t x f line y s h =
     let l = led t x f line y h in
     let d = stored t x f (l .type) in
     rw (l .next, d) (step-goes t x (wordOf f) (constantOf f) (on-type f x (l .type)) s (rw d at (l .sound)))
-
