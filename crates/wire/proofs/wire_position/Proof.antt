@@ -191,7 +191,7 @@ wire-position-spec =
     (λ c. omega (arith, below (c .before .before), room (c .before .before) .firsts))
     (λ c. omega (arith, small (c .before .before)))
     (λ c. omega (arith, below (c .before .before), room (c .before .before) .seconds))
-    (λ c. let o = s (c .before .before) in omega (arith, o .pre .1 .0, o .pre .0 .few))
+    (λ c. let o = s (c .before .before) in omega (arith, small (c .before .before), o .pre .1 .0, o .pre .0 .few))
     (λ c. omega (arith, small (c .before .before)))
     (λ c. omega (arith, below (c .before .before), room (c .before .before) .lefts))
     (λ c. omega (arith, rule-small (c .before .before)))
