@@ -10,3 +10,4 @@ pub mod Forth
 pub mod Bounds
 pub mod Trees
 pub mod Kept
+pub mod Tables
