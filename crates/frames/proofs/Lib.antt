@@ -11,3 +11,4 @@ pub mod Bounds
 pub mod Trees
 pub mod Kept
 pub mod Tables
+pub mod Walked
