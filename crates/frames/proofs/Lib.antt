@@ -7,4 +7,8 @@ pub mod Sofar
 pub mod Readings
 pub mod Back
 pub mod Forth
+pub mod Bounds
 pub mod Trees
+pub mod Kept
+pub mod Tables
+pub mod Walked

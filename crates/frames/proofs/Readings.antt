@@ -29,7 +29,7 @@ copy-next d s i h k =
     let z : 0 + i ≡ i = zero-add i in
     ap (λ (n : ℕ). set (paste d 0 s i) n (getD s i 0)) (sym z) ∙ paste-suc d 0 s i 0 (omega arith) k ∙ ap (paste d 0 s) (sym (add-one i))
 
-store-length : (t : List ℕ) (x : Expected) (w c : ℕ) → length (store t x w c) ≡ length t
+pub store-length : (t : List ℕ) (x : Expected) (w c : ℕ) → length (store t x w c) ≡ length t
 store-length t AtHeader w c = length-set t 0 w
 store-length t (AtSymbol s) w c = length-set t (1 + s) w
 store-length t (AtProduction p) w c = length-set t (33 + p) w

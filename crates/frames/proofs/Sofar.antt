@@ -28,25 +28,25 @@ use Rattle.frames.specs.declared.Taken.the-variants.{Next, Stopped}
 use Rattle.frames.proofs.Taking.{never-ended}
 
 -- u has the words of t but those from a to b - 1
-abbrev Only : List ℕ → List ℕ → ℕ → ℕ → Type 0
+abbrev pub Only : List ℕ → List ℕ → ℕ → ℕ → Type 0
 Only t u a b = (n : ℕ) → (n < a) ⊎ (b ≤ n) → getD t n 0 ≡ getD u n 0
 
-one-only : (t : List ℕ) (a v : ℕ) → Only t (set t a v) a (a + 1)
+pub one-only : (t : List ℕ) (a v : ℕ) → Only t (set t a v) a (a + 1)
 one-only t a v n h = sym (getD-set-other t a n v 0 (λ e. ⊎-elim (λ k. omega arith) (λ k. omega arith) h))
 
-two-only : (t : List ℕ) (m v c : ℕ) → Only t (set (set t (97 + m) v) (98 + m) c) (97 + m) (99 + m)
+pub two-only : (t : List ℕ) (m v c : ℕ) → Only t (set (set t (97 + m) v) (98 + m) c) (97 + m) (99 + m)
 two-only t m v c n h =
     sym (getD-set-other (set t (97 + m) v) (98 + m) n c 0 (λ e. ⊎-elim (λ k. omega arith) (λ k. omega arith) h)
     ∙ getD-set-other t (97 + m) n v 0 (λ e. ⊎-elim (λ k. omega arith) (λ k. omega arith) h))
 
-symbols-so : (t : List ℕ) → Top t → Symbols t
+pub symbols-so : (t : List ℕ) → Top t → Symbols t
 symbols-so t o = symbols-of t (holds t header (o .header)) (λ s h. holds t (symbol s) (o .symbols s h))
 
-shaped-so : (t : List ℕ) (p : ℕ) → Top t → refusalAt t (production p) ≡ 0 → Shaped t p
+pub shaped-so : (t : List ℕ) (p : ℕ) → Top t → refusalAt t (production p) ≡ 0 → Shaped t p
 shaped-so t p o z = shaped-of t p (symbols-so t o) (holds t (production p) z)
 
 -- the counts of a header that is not refused
-some-counts : (t : List ℕ) → refusalAt t header ≡ 0 → ((1 ≤ symbolCount t) × (symbolCount t ≤ 32)) × ((1 ≤ productionCount t) × (productionCount t ≤ 64))
+pub some-counts : (t : List ℕ) → refusalAt t header ≡ 0 → ((1 ≤ symbolCount t) × (symbolCount t ≤ 32)) × ((1 ≤ productionCount t) × (productionCount t ≤ 64))
 some-counts t z =
     let o = or-false (outside 1 32 (symbolCount t)) (outside 1 64 (productionCount t)) (holds t header z .counts) in
     (outside-false 1 32 (symbolCount t) (o .0), outside-false 1 64 (productionCount t) (o .1))
@@ -264,11 +264,11 @@ module _ (t : List ℕ) (x : Expected) (f : text.Frame) (line : ℕ) (y : Expect
   unfolding takenAt
   led h = by-type (eqb (typeOf f) (typeAt x)) refl h
 
-stored : (t : List ℕ) (x : Expected) (f : text.Frame) → eqb (typeOf f) (typeAt x) ≡ true → wordsAfter t x f ≡ store t x (wordOf f) (constantOf f)
+pub stored : (t : List ℕ) (x : Expected) (f : text.Frame) → eqb (typeOf f) (typeAt x) ≡ true → wordsAfter t x f ≡ store t x (wordOf f) (constantOf f)
 unfolding wordsAfter
 stored t x f e = rw e
 
-on-type : (f : text.Frame) (x : Expected) → eqb (typeOf f) (typeAt x) ≡ true → isOn x ≡ true
+pub on-type : (f : text.Frame) (x : Expected) → eqb (typeOf f) (typeAt x) ≡ true → isOn x ≡ true
 on-type f AtHeader e = refl
 on-type f (AtSymbol s) e = refl
 on-type f (AtProduction p) e = refl

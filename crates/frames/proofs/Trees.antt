@@ -22,6 +22,7 @@ use Rattle.frames.specs.declared.Frame.{Frame}
 use Rattle.frames.specs.declared.Frame.the-variants.{Header, Symbol, Production, Equation, Node, Load, Replace, Dump, Refused, Over}
 use Rattle.frames.proofs.Back.{frame-behind, frame-back}
 use Rattle.frames.proofs.Forth.{frame-forth}
+use Rattle.frames.proofs.Bounds.{Bounded, bounded}
 
 -- a frame that was written stands behind any text
 pub frame-at : (pre : List ℕ) (f : Frame) (rest : List ℕ) (line : ℕ) → Fits f
@@ -56,42 +57,6 @@ tree-back ps owns rest line fit few =
     let e : (t ++ more) ++ rest ≡ t ++ (more ++ rest) = append-assoc t more rest in
     let f = frame-back (Load (length ps)) (more ++ rest) line few in
     rw e (rw f (nodes-back ps owns t rest (lineAfter line) fit))
-
--- the fields of a frame that was read fit
-abbrev Bounded : Frame → Type 0
-Bounded (Header a b) = Unit {0}
-Bounded (Symbol a b) = Unit {0}
-Bounded (Production l n cs) = Unit {0}
-Bounded (Equation op a b c) = Unit {0}
-Bounded (Node p o) = (p < 2 ^ 8) × (o < 2 ^ 64)
-Bounded (Load n) = n < 2 ^ 16
-Bounded (Replace r n) = Unit {0}
-Bounded Dump = Unit {0}
-Bounded (Refused r l) = Unit {0}
-Bounded Over = Unit {0}
-
-either : (b : Bool) (x y : Frame) → Bounded x → Bounded y → Bounded (cond b x y)
-either true x y g h = g
-either false x y g h = h
-
-module _ (s : List ℕ) (place n line : ℕ) where
-  bounded-of : Bounded (frameOf s place n line)
-  unfolding frameOf kindOf headerOf symbolOf productionOf equationOf nodeOf loadOf replaceOf dumpOf
-  bounded-of =
-      let t : ℕ = numAt 2 s place in
-      either (eqb t 1) _ _ (either (eqb n 6) _ _ tt tt) (either (eqb t 2) _ _ (either (eqb n 6) _ _ tt tt)
-      (either (eqb t 3) _ _ (either (ltb n 6) _ _ tt (either (eqb n (6 + 2 * numAt 2 s (place + 4))) _ _ tt tt)) (either (eqb t 4) _ _ (either (eqb n 28) _ _ tt tt)
-      (either (eqb t 5) _ _ (either (eqb n 20) _ _ (num-small 2 s (place + 2), num-small 16 s (place + 4)) tt) (either (eqb t 6) _ _ (either (eqb n 6) _ _ (num-small 4 s (place + 2)) tt)
-      (either (eqb t 7) _ _ (either (eqb n 10) _ _ tt tt) (either (eqb t 8) _ _ (either (eqb n 2) _ _ tt tt) tt)))))))
-
-pub bounded : (s : List ℕ) (place line : ℕ) → Bounded (frameAt s place line .frame)
-unfolding frameAt
-bounded s place line = by-line (lineAt s place)
-  where
-    by-line : (l : Line) → Bounded (stepOf s place line l .frame)
-    by-line (Digits n) = bounded-of s place n line
-    by-line Bad = tt
-    by-line End = tt
 
 -- a row of nodes that was read
 pub record Rowed (s : List ℕ) (place n : ℕ) (ps owns : List ℕ) (end : ℕ) : Type 0 where
@@ -136,7 +101,7 @@ first-node (Refused a b) line rest ps owns end next e = absurd (let z : _≡_ {A
 first-node Over line rest ps owns end next e = absurd (let z : _≡_ {A = ℕ} 0 1 = cc in omega arith)
 
 -- two parts of a text, one behind the other
-join-parts : (s a b : List ℕ) (place : ℕ) → take (length a) (drop place s) ≡ a → take (length b) (drop (place + length a) s) ≡ b → take (length (a ++ b)) (drop place s) ≡ a ++ b
+pub join-parts : (s a b : List ℕ) (place : ℕ) → take (length a) (drop place s) ≡ a → take (length b) (drop (place + length a) s) ≡ b → take (length (a ++ b)) (drop place s) ≡ a ++ b
 join-parts s a b place e f =
     rw (length-append a b, take-add (length a) (length b) (drop place s), drop-drop (length a) place s, e, f)
 

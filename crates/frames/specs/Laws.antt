@@ -3,8 +3,10 @@ use mathlib.Core.Path.{_≡_}
 use mathlib.Core.List.{List, [], _∷_, _++_}
 use Prim.Native.Nat.{ℕ, zero, suc, _+_, _^_, _≤_, _<_}
 use lib.ListN.{length, take, drop}
+use Rattle.table.specs.Judge.{judgeTable}
 use Rattle.frames.specs.Frames.{frameAt, lineAfter}
-use Rattle.frames.specs.Text.{textOf, treeText}
+use Rattle.frames.specs.Text.{textOf, treeText, tableText}
+use Rattle.frames.specs.Reading.{done, readingAt}
 use Rattle.frames.specs.Planting.{good, treeAt}
 use Rattle.frames.specs.declared.Children.{Children}
 use Rattle.frames.specs.declared.Step.{Step}
@@ -82,3 +84,13 @@ pub record TreeForth (s : List ℕ) (place : ℕ) (ps owns : List ℕ) (end : �
 
 abbrev pub TreeForthAll : Type 0
 TreeForthAll = (s : List ℕ) (place line : ℕ) (ps owns : List ℕ) (end next : ℕ) → treeAt s place line ≡ good ps owns end next → TreeForth s place ps owns end
+
+-- a text that is read as a table is the table's text, and the table is sound
+pub record TableForth (s : List ℕ) (place : ℕ) (t : List ℕ) (end : ℕ) : Type 0 where
+  pub text : take (length (tableText t)) (drop place s) ≡ tableText t
+  pub behind : end ≡ place + length (tableText t)
+  pub sound : judgeTable t ≡ 0
+  pub size : length t ≡ 2657
+
+abbrev pub TableForthAll : Type 0
+TableForthAll = (s : List ℕ) (place line : ℕ) (t : List ℕ) (end next : ℕ) → readingAt s place line ≡ done t end next → TableForth s place t end

@@ -1,11 +1,13 @@
 -- A table frame by frame: which frame comes next. Assumes nothing.
 use Prim.Native.Nat.{ℕ, zero, suc, _+_, _-_, _≤_, _<_}
+use mathlib.Core.Path.{_≡_}
 use mathlib.Core.Bool.{Bool, true, false, cond}
 use mathlib.Core.List.{List, [], _∷_, _++_}
 use lib.Dec.{ltb}
+use lib.ListN.{length}
 use Rattle.table.specs.Words.{symbolCount, productionCount, childCount, defined, ruleOf, headAt}
 use Rattle.table.specs.Equations.{opNumber}
-use Rattle.table.specs.Judge.{Frame, header, symbol, production, equation}
+use Rattle.table.specs.Judge.{Frame, header, symbol, production, equation, frames, judgeTable}
 use Rattle.table.specs.Shape.{Shaped}
 use Rattle.frames.specs.Text.{shown, textOf}
 use Rattle.frames.specs.declared.Expected.{Expected}
@@ -67,3 +69,12 @@ textAt t (AtSymbol s) = textOf (shown t (symbol s))
 textAt t (AtProduction p) = textOf (shown t (production p))
 textAt t (AtEquation p q k) = textOf (shown t (equation p q k))
 textAt t Ended = []
+
+-- the frames that are passed from an expected one on, n at most
+unfoldable pub walkFrom : ℕ → List ℕ → Expected → List Frame
+walkFrom zero t x = []
+walkFrom (suc n) t x = cond (isOn x) (entryOf x ∷ walkFrom n t (nextOf t x)) []
+
+-- going from frame to frame passes the frames of a sound table, in their order
+abbrev pub Walks : Type 0
+Walks = (t : List ℕ) → judgeTable t ≡ 0 → walkFrom (length (frames t)) t AtHeader ≡ frames t
