@@ -5,7 +5,7 @@ use mathlib.Core.Bool.{Bool, cond, not, _&&_}
 use mathlib.Core.List.{List, [], _∷_, _++_}
 use lib.ListN.{getD, length, drop}
 use lib.Dec.{eqb, ltb}
-use Rattle.circles.specs.Graph.{Graph}
+use Rattle.circles.specs.Graph.{Graph, Closed}
 use Rattle.circles.specs.Ranked.{labelsOf, ranked}
 
 -- slot x has the arguments a[x] and b[x], of which a number past the slots is none; a[x] is 65534 where x is not declared
@@ -18,6 +18,13 @@ graphOf n a b = record {
   declared = λ x. ltb x n && not (eqb (getD a x 65534) 65534);
   args = λ x. given n (getD a x 65534) (getD b x 65534);
 }
+
+-- what is asked of the arguments: slots for all, and what a declared slot reads is declared
+pub record Given (n : ℕ) (a b : List ℕ) : Type 0 where
+  pub few : n ≤ 4096
+  pub long-a : n ≤ length a
+  pub long-b : n ≤ length b
+  pub closed : Closed (graphOf n a b)
 
 -- circle behind circle
 unfoldable pub joined : List (List ℕ) → List ℕ

@@ -2,3 +2,9 @@ pub mod Printed
 pub mod Order
 pub mod Shown
 pub mod Writing
+pub mod Taking
+pub mod Sofar
+pub mod Readings
+pub mod Back
+pub mod Forth
+pub mod Trees

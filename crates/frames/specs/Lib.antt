@@ -3,3 +3,8 @@ pub mod Out
 pub mod Text
 pub mod Walk
 pub mod Written
+pub mod Read
+pub mod Moved
+pub mod Reading
+pub mod Laws
+pub mod Planting

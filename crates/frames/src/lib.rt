@@ -2,7 +2,9 @@
 mod kinds;
 mod out;
 mod plant;
+mod read;
 mod walk;
+mod whole;
 mod write;
 
 pub use kinds::frame_at;
@@ -11,10 +13,15 @@ pub use out::put_refusal;
 pub use out::put_round;
 pub use out::put_set;
 pub use plant::write_tree;
+pub use read::take_frame;
 use refusal::Refusal;
 use sets::Argument;
 pub use walk::next_of;
+pub use whole::read_table;
 pub use write::write_table;
+ghost use mathlib.Core.Path.{_≡_};
+ghost use Rattle.frames.specs.Frames.{frameAt};
+ghost use Rattle.frames.specs.Moved.{moved};
 
 // The symbols of up to four children, 0 where there is none.
 pub struct Children {
@@ -92,4 +99,54 @@ pub enum Expected {
 pub enum Written {
     Length(usize),
     Refused(Refusal),
+}
+
+// What a frame of a table's text leads to: what is expected next, or why the reading stops, and the line.
+pub enum Taken {
+    Next(Expected),
+    Stopped { refusal: Refusal, line: u32 },
+}
+
+// Where the text behind a table starts, and its line; or why no table was read, and the line.
+pub enum ReadTable {
+    Read { place: usize, line: u32 },
+    Refused { refusal: Refusal, line: u32 },
+}
+
+// A reader: the lent text, the place of the next line and its number.
+pub struct Reader<'a> {
+    pub text: &'a [u8],
+    pub place: usize,
+    pub line: u32,
+}
+
+// A reader at a place of a text.
+pub fn reader_at<'a>(text: &'a [u8], place: usize, line: u32) -> Reader<'a>
+    ensures { λ r. ⌜ (r .text ≡ text .entry) × ((r .place ≡ place) × (r .line ≡ line)) ⌝ }
+{
+    Reader { text, place, line }
+}
+
+// The frame at the reader's place, and where the next one is.
+pub fn next<'a>(r: Reader<'a>) -> Step
+    ensures { λ s. ⌜ s ≡ frameAt (now (r .entry .text)) (r .entry .place) (r .entry .line) ⌝ }
+{
+    frame_at(r.text, r.place, r.line)
+}
+
+// The same with plain parameters, for every other caller.
+pub fn next_at(text: &[u8], place: usize, line: u32) -> Step
+    ensures { λ s. ⌜ s ≡ frameAt (now (text .entry)) place line ⌝ }
+{
+    next(reader_at(text, place, line))
+}
+
+// The reader is lent, and moves on.
+pub fn advance<'s, 'a>(r: &'s mut Reader<'a>) -> Frame
+    ensures { λ f. ⌜ (f ≡ frameAt (now (now (r .entry) .text)) (now (r .entry) .place) (now (r .entry) .line) .frame) × (now (r .exit) ≡ moved (now (r .entry))) ⌝ }
+{
+    let s = frame_at(r.text, r.place, r.line);
+    r.place = s.place;
+    r.line = s.line;
+    s.frame
 }

@@ -34,9 +34,6 @@ module _ (l : List ℕ) (n r k s : ℕ) (hk : 0 < k) (hs : 0 < s) (hr : r + k �
       let e = length-exchanged (take (8 * n) l) (8 * (r + 1)) (8 * (k - 1)) (replicate (8 * (s - 1)) 0) (omega (arith, part-long)) in
       omega (arith, part-long, zeros-many)
 
-  pub shifted-long : 8 * (n - k + s) ≤ length l → length (filled (shifted l n r k s) l) ≡ length l
-  shifted-long h = length-filled (shifted l n r k s) l (omega (arith, length-shifted))
-
   fits : 8 * (r + 1) + 8 * (k - 1) ≤ length (take (8 * n) l)
   fits = omega (arith, part-long)
 
@@ -78,7 +75,7 @@ module _ (l : List ℕ) (n r k s : ℕ) (hk : 0 < k) (hs : 0 < s) (hr : r + k �
 
     ready-long : length ready ≡ length l
     unfolding ready
-    ready-long = shifted-long (omega arith)
+    ready-long = length-filled (shifted l n r k s) l (omega (arith, length-shifted))
 
     result : List ℕ
     result = map (arranged t ns r k s l) (upFrom 0 (8 * length ns))

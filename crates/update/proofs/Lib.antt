@@ -1,6 +1,7 @@
 pub mod Computed
 pub mod Checks
 pub mod Refusing
+pub mod Leaving
 pub mod Within
 pub mod Meaning
 pub mod Stepping

@@ -2,13 +2,17 @@
 use mathlib.Core.Path.{_≡_}
 use mathlib.Core.Bool.{Bool, true, false}
 use mathlib.Core.Logic.{_↔_}
+use mathlib.Core.List.{List}
 use Prim.Native.Nat.{ℕ, _+_, _≤_, _<_}
 use lib.ListN.{length}
+use Rattle.climb.specs.System.{System}
 use Rattle.update.specs.declared.Open.{Open}
 use Rattle.update.specs.declared.Record.{Record}
 use Rattle.update.specs.Records.{isOpen, beyond, opened, shut}
 use Rattle.update.specs.Memories.{Memory}
-use Rattle.update.specs.Refusals.{short}
+use Rattle.update.specs.Refusals.{short, loadRefusal, replaceRefusal}
+use Rattle.update.specs.Steps.{stepOf, runOf}
+use Rattle.update.specs.Calls.{loadCall, replaceCall}
 
 -- "15: a lent buffer for the held tree or its sets is shorter than 512 nodes or 4,096 sets"
 pub record Roomy (m : Memory) : Type 0 where
@@ -56,3 +60,21 @@ pub record Shuts (held : Bool) (nodes : ℕ) : Type 0 where
 
 abbrev pub AllShut : Type 0
 AllShut = (held : Bool) (nodes : ℕ) → Shuts held nodes
+
+-- ---- no call leaves a record that the next one refuses by 11
+
+-- "Every call has a defined result on altered values too: a round, circles or evaluations number that would pass its limit stays at the limit."
+abbrev pub StepWithin : Type 0
+StepWithin = (S : System) (R : List (List ℕ)) (before : List ℕ) (r : Record) (s : List ℕ) → length R ≤ 4092 → beyond r ≡ false
+    → beyond (stepOf S R r before s .next) ≡ false
+
+abbrev pub RunWithin : Type 0
+RunWithin = (S : System) (R : List (List ℕ)) (before : List ℕ) (n : ℕ) (r : Record) (s : List ℕ) → length R ≤ 4092 → beyond r ≡ false
+    → beyond (runOf S R before n r s .next) ≡ false
+
+pub record OpensWithin (t : List ℕ) (m : Memory) (r : Record) : Type 0 where
+  pub load : (ns owns : List ℕ) → loadRefusal t m r ns owns ≡ 0 → beyond (loadCall t m r ns owns .next) ≡ false
+  pub replace : (point : ℕ) (new newOwns : List ℕ) → replaceRefusal t m r point new newOwns ≡ 0 → beyond (replaceCall t m r point new newOwns .next) ≡ false
+
+abbrev pub AllOpenWithin : Type 0
+AllOpenWithin = (t : List ℕ) (m : Memory) (r : Record) → OpensWithin t m r

@@ -43,11 +43,11 @@ clear-node-spec =
     (λ c κs. omega (arith, symbol (c .before), start-w (c .before .before) .pre .0 .symbols))
     (λ c. search needs)
     (λ c. omega (arith, synthesized-few (c .before .before)))
-    (λ c. synthesized-few (c .before .before))
+    (λ c. omega (arith, synthesized-few (c .before .before)))
     (λ c κs. omega (arith, synthesized-few (c .before .before)))
     (λ c. search needs)
     (λ c. omega (arith, inherited-few (c .before .before .before .before .before)))
-    (λ c. inherited-few (c .before .before .before .before .before))
+    (λ c. omega (arith, inherited-few (c .before .before .before .before .before)))
     (λ c κs. omega (arith, inherited-few (c .before .before .before .before .before)))
     (λ c. search needs)
     (λ c.

@@ -4,13 +4,13 @@ use mathlib.Core.Path.{_≡_, ap, sym, _∙_, subst}
 use mathlib.Core.List.{List, map}
 use native.Mathlib.Omega.{arith}
 use borrow.Author.Needs.{needs}
-use lib.ListN.{length, take}
+use lib.ListN.{length, take, length-take}
 use lib.Seq.{length-take-le}
 use Rattle.circles.specs.Ranked.{upFrom}
 use Rattle.tree.specs.Replace.{exchanged}
 use Rattle.update.specs.Memories.{filled, arranged}
 use Rattle.memory.specs.Numbered.{Numbered}
-use Rattle.memory.proofs.Placed.{length-exchanged, length-filled, take-filled}
+use Rattle.memory.proofs.Placed.{length-exchanged, take-filled}
 use Rattle.memory.proofs.Slots.{length-slots}
 use Rattle.memory.proofs.Numbered.{exchanged-numbered}
 use Rattle.memory.proofs.placing.place_part.Statement.{statement}
@@ -35,6 +35,9 @@ tree-long s =
     let e = held-long s in
     let f = length-exchanged (held s) (s .args .point) (s .args .old) (s .args .new .now) (omega arith) in
     omega arith
+
+room : (s : tie.Start) → (count s ≤ 512) × (4096 ≤ length (s .args .sets .now)) × (4096 ≤ length (s .args .«before» .now))
+room s = let p = s .pre .1 .1 .1 in (p .0 .0, p .1 .1 .0, p .1 .1 .1)
 
 tree-numbered : (s : tie.Start) → Numbered (s .args .table .now) (tree s)
 tree-numbered s =
@@ -72,12 +75,8 @@ sets c = c .arrange-sets .last .1 .1 .1 .1 .1 .1 .0
 sets-are : (c : tie.After-arrange-sets) → sets c ≡ filled (values (start (nodes-of c))) (start (nodes-of c) .args .sets .now)
 sets-are c = let s = start (nodes-of c) in c .arrange-sets .ensures ∙ ap (λ ns. filled (arrangedBy s ns) (s .args .sets .now)) (tree-back (nodes-of c))
 
-sets-room : (c : tie.After-arrange-sets) → 8 * count (start (nodes-of c)) ≤ length (sets c)
-sets-room c =
-    let s = start (nodes-of c) in
-    let e = values-long s in
-    let f = ap length (sets-are c) ∙ length-filled (values s) (s .args .sets .now) (omega arith) in
-    omega arith
+sets-long : (c : tie.After-arrange-sets) → length (sets c) ≡ length (start (nodes-of c) .args .sets .now)
+sets-long c = c .arrange-sets .kept .1 .1 .1 .1 .1 .1 .0
 
 sets-back : (c : tie.After-arrange-sets) → take (8 * count (start (nodes-of c))) (sets c) ≡ values (start (nodes-of c))
 sets-back c =
@@ -101,13 +100,9 @@ place-part-spec =
     let e = tree-back-long x in
     (s .pre .0, (subst (Numbered (s .args .table .now)) (sym (tree-back x)) (tree-numbered s), ((p .0 .0, p .0 .1, p .0 .2), (e, (omega arith, omega arith))))))
     (λ c. search needs)
-    (λ c. sets-room (c .before .before .before))
-    (λ c. let x = c .before .before .before .before in sym (length-take-le (8 * count (start (nodes-of x))) (sets x) (sets-room x)))
-    (λ c κs.
-    let x = c .before .before .before .before in
-    let s = start (nodes-of x) in
-    let h : 8 * count s ≤ length (s .args .«before» .now) = omega arith in
-    subst (λ n. n ≤ length (s .args .«before» .now)) (sym (length-take-le (8 * count s) (sets x) (sets-room x))) h)
+    (λ c. let x = c .before .before .before in let r = room (start (nodes-of x)) in omega (arith, sets-long x))
+    (λ c. let x = c .before .before .before .before in let r = room (start (nodes-of x)) in let e = sets-long x in simp length-take (omega arith))
+    (λ c κs. let x = c .before .before .before .before in let r = room (start (nodes-of x)) in let e = sets-long x in simp length-take (omega arith))
     (λ c. search needs)
     (λ c. search needs)
     (λ c. search needs)

@@ -1,0 +1,151 @@
+// One step of an update.
+use super::changed::changed;
+use super::due::first_due;
+use super::due::wide;
+use super::numbers::next_record;
+use super::numbers::round_number;
+use super::rounds::round_at;
+use update::Answer;
+use update::Open;
+use update::Record;
+ghost use Prim.Native.Nat.{_<_, _≤_};
+ghost use lib.ListN.{length};
+ghost use lib.Seq.{slice};
+ghost use Rattle.climb.specs.Wired.{wired, Rows, Wiring};
+ghost use Rattle.update.specs.Within.{WithinLimits};
+ghost use Rattle.update.specs.Steps.{roundNumber, roundMade, doneMade, stepOf};
+ghost use Rattle.steps.specs.Arranged.{circlesIn, Circles, Lent};
+ghost use Rattle.steps.specs.Tests.{reading};
+ghost use Rattle.steps.specs.Says.{StepSays};
+
+pub struct Stepped {
+    pub answer: Answer,
+    pub record: Record,
+}
+
+// No circle is due: the numbers at done, and the update closed.
+fn finish<'a>(a: &'a [u16], n: usize, before: &'a [u64], sets: &'a [u64], r: Record) -> Stepped
+    requires { ⌜ WithinLimits r ⌝ }
+    requires { ⌜ (n ≤ length (now a)) × (n ≤ length (now before)) × (n ≤ length (now sets)) ⌝ }
+    ensures { λ d. ⌜ StepSays (doneMade (reading n (now (a .entry)) (now (a .entry))) r (now (before .entry)) (now (sets .entry))) (d .answer) (d .record) (now (sets .entry)) ⌝ }
+{
+    let c = changed(a, n, before, sets, r);
+    Stepped {
+        answer: Answer::Done {
+            circles: r.circles,
+            evaluations: r.evaluations,
+            changed: c,
+        },
+        record: Record {
+            held: r.held,
+            open: Open::Nothing,
+            nodes: r.nodes,
+            point: 0,
+            part: 0,
+            rank: 0,
+            round: 0,
+            circles: 0,
+            evaluations: 0,
+        },
+    }
+}
+
+// Circle i, from start up to end, makes one round.
+fn make_round<'a>(
+    table: &'a [u64; 2657],
+    owns: &'a [u64],
+    a: &'a [u16],
+    b: &'a [u16],
+    left: &'a [u16],
+    rule: &'a [u16],
+    members: &'a [u16],
+    start: usize,
+    end: usize,
+    n: usize,
+    r: Record,
+    i: usize,
+    sets: &mut [u64],
+    values: &mut [u64],
+) -> Stepped
+    requires { ⌜ WithinLimits r ⌝ }
+    requires { ⌜ (i < 4092) × (start < end) × (end ≤ 4096) ⌝ }
+    requires { ⌜ Rows (now owns) (now a) (now b) (now left) (now rule) (now members) n start end ⌝ }
+    requires { ⌜ (n ≤ length (now a)) × (n ≤ length (now b)) × (n ≤ length (now sets)) × (end ≤ length (now values)) ⌝ }
+    ensures { λ d. ⌜ StepSays (roundMade (wired n (now (table .entry)) (now (owns .entry)) (now (a .entry)) (now (b .entry)) (now (left .entry)) (now (rule .entry))) (slice start end (now (members .entry))) r i (roundNumber r i) (now (sets .entry))) (d .answer) (d .record) (now (sets .exit)) ⌝ }
+{
+    let k = round_number(r, i);
+    let closed = round_at(
+        table,
+        owns,
+        a,
+        b,
+        left,
+        rule,
+        members,
+        start,
+        end,
+        n,
+        k,
+        sets,
+        values,
+    );
+    let least = wide(members[start]);
+    let size = end - start;
+    Stepped {
+        answer: Answer::Round {
+            least: least,
+            round: k,
+            size: size,
+            closed: closed,
+        },
+        record: next_record(r, i, k, size, closed),
+    }
+}
+
+// One step: a round of the first due circle, or done. The values of the round pass through `values`.
+pub fn step_in<'a>(
+    table: &'a [u64; 2657],
+    owns: &'a [u64],
+    a: &'a [u16],
+    b: &'a [u16],
+    left: &'a [u16],
+    rule: &'a [u16],
+    label: &'a [u16],
+    members: &'a [u16],
+    ends: &'a [u16],
+    count: usize,
+    n: usize,
+    before: &'a [u64],
+    r: Record,
+    sets: &mut [u64],
+    values: &mut [u64],
+) -> Stepped
+    requires { ⌜ WithinLimits r ⌝ }
+    requires { ⌜ Wiring (now owns) (now a) (now b) (now left) (now rule) n ⌝ }
+    requires { ⌜ Circles n (now a) (now b) (now label) (now members) (now ends) count ⌝ }
+    requires { ⌜ Lent n (now before) (now sets) (now values) ⌝ }
+    ensures { λ d. ⌜ StepSays (stepOf (wired n (now (table .entry)) (now (owns .entry)) (now (a .entry)) (now (b .entry)) (now (left .entry)) (now (rule .entry))) (circlesIn n (now (a .entry)) (now (b .entry))) r (now (before .entry)) (now (sets .entry))) (d .answer) (d .record) (now (sets .exit)) ⌝ }
+{
+    let i = first_due(a, b, label, members, ends, count, n, before, sets, r);
+    if count <= i {
+        return finish(a, n, before, sets, r);
+    }
+    let start = wide(ends[i]);
+    let end = wide(ends[i + 1]);
+    make_round(
+        table,
+        owns,
+        a,
+        b,
+        left,
+        rule,
+        members,
+        start,
+        end,
+        n,
+        r,
+        i,
+        sets,
+        values,
+    )
+}

@@ -1,0 +1,127 @@
+-- No call leaves a record that the next one refuses by 11: opened ones lie inside the tree, and at their limits numbers stay. Assumes nothing.
+use mathlib.Core.Path.{_≡_}
+use mathlib.Core.Bool.{Bool, true, false, cond}
+use mathlib.Core.Logic.{⊎-elim}
+use mathlib.Core.List.{List, [], _∷_}
+use Prim.Native.Nat.{ℕ, zero, suc, _+_, _-_, _≤_, _<_, min, zero-le}
+use native.Mathlib.Omega.{arith}
+use lib.Dec.{eqb, ltb}
+use lib.ListN.{length, drop, length-take, length-drop}
+use borrow.Author.Tests.{ltb-true}
+use Rattle.table.specs.Words.{childCount}
+use Rattle.tree.specs.Tree.{judgeNodes, judgeTree, size}
+use Rattle.tree.specs.Replace.{part}
+use Rattle.climb.specs.Circuit.{circleAt}
+use Rattle.climb.proofs.Lists.{either}
+use Rattle.update.specs.declared.Record.{Record}
+use Rattle.update.specs.declared.Open.the-variants.{Load, Replacement}
+use Rattle.update.specs.Records.{beyond}
+use Rattle.update.specs.Memories.{Memory, nodesOf}
+use Rattle.update.specs.Refusals.{loadRefusal, replaceRefusal}
+use Rattle.update.specs.Steps.{roundNumber, fromOf, toOf, closedOf, roundRecord, Outcome, round, done, roundMade, doneMade, dueFrom, stepOf, onward, Ran, runOf}
+use Rattle.update.specs.Calls.{loadCall, replaceCall}
+use Rattle.update.specs.Within.{WithinLimits, StepWithin, RunWithin, AllOpenWithin}
+use Rattle.update.proofs.Within.{beyond-means, all-open, all-shut}
+use Rattle.update.proofs.Refusing.{all-exactly}
+
+-- ---- steps and runs
+
+record-within : (r : Record) (i k n : ℕ) (closed : Bool) → WithinLimits r → i < 4092 → k ≤ 262145 → WithinLimits (roundRecord r i k n closed)
+unfolding roundRecord
+record-within r i k n true w l m = record {
+  nodes = w .nodes;
+  point = w .point;
+  part = w .part;
+  rank = l;
+  round = zero-le;
+  circles = omega arith;
+  evaluations = omega arith;
+  inside = w .inside;
+}
+record-within r i k n false w l m = record {
+  nodes = w .nodes;
+  point = w .point;
+  part = w .part;
+  rank = omega arith;
+  round = m;
+  circles = w .circles;
+  evaluations = omega arith;
+  inside = w .inside;
+}
+
+number-within : (r : Record) (i : ℕ) → roundNumber r i ≤ 262145
+unfolding roundNumber
+number-within r i = omega arith
+
+pub step-within : StepWithin
+unfolding stepOf roundMade doneMade
+step-within S R before r s l h = ⊎-elim
+    (λ (e : ltb i (length R) ≡ true). let q : i < length R = ltb-true i (length R) e in
+    rw e (beyond-means (roundRecord r i (roundNumber r i) (length C) closed) .1
+    (record-within r i (roundNumber r i) (length C) closed (beyond-means r .0 h) (omega arith) (number-within r i))))
+    (λ (e : ltb i (length R) ≡ false). rw e (all-shut (r .held) (r .nodes) .within (beyond-means r .0 h .nodes)))
+    (either (ltb i (length R)))
+  where
+    i : ℕ
+    i = dueFrom S R r before s
+
+    C : List ℕ
+    C = circleAt R (dueFrom S R r before s)
+
+    closed : Bool
+    closed = closedOf S (circleAt R (dueFrom S R r before s)) (fromOf S (circleAt R (dueFrom S R r before s)) (roundNumber r (dueFrom S R r before s)) s)
+        (toOf S (circleAt R (dueFrom S R r before s)) (fromOf S (circleAt R (dueFrom S R r before s)) (roundNumber r (dueFrom S R r before s)) s))
+
+onward-within : (o : Outcome) (r : Record) (s : List ℕ) (go : Record → List ℕ → Ran) → beyond r ≡ false → beyond (go r s .next) ≡ false → beyond (onward o r s go .next) ≡ false
+onward-within (round a k c d) r s go h g = g
+onward-within (done a c d) r s go h g = h
+
+pub run-within : RunWithin
+unfolding runOf
+run-within S R before zero r s l h = h
+run-within S R before (suc n) r s l h =
+    let m = stepOf S R r before s in
+    let w = step-within S R before r s l h in
+    onward-within (m .outcome) (m .next) (m .sets) (runOf S R before n) w (run-within S R before n (m .next) (m .sets) l w)
+
+-- ---- opened records
+
+seven : (b : Bool) → cond {A = ℕ} b 7 7 ≡ 0 → ⊥
+seven true h = omega arith
+seven false h = omega arith
+
+-- a tree that passes has a node
+some-node : (t ns owns : List ℕ) (s : ℕ) → judgeTree t ns owns s ≡ 0 → 0 < length ns
+unfolding judgeTree judgeNodes
+some-node t [] owns s h = absurd (seven (eqb 0 (length owns)) h)
+some-node t (p ∷ ns) owns s h = omega arith
+
+size-most : (t ns : List ℕ) (k : ℕ) → size t ns k ≤ length ns
+unfolding size
+size-most t [] k = zero-le
+size-most t (p ∷ ns) zero = zero-le
+size-most t (p ∷ ns) (suc k) = omega (arith, size-most t ns (childCount t p + k))
+
+part-most : (t ns : List ℕ) (r : ℕ) → part t ns r ≤ length ns - r
+unfolding part
+part-most t ns r = rw (length-drop r ns) at (size-most t (drop r ns) 1)
+
+module _ (t : List ℕ) (m : Memory) (r : Record) where
+  load-within : (ns owns : List ℕ) → loadRefusal t m r ns owns ≡ 0 → beyond (loadCall t m r ns owns .next) ≡ false
+  unfolding loadCall
+  load-within ns owns h =
+      let c = all-exactly t m r .load ns owns .by0 .0 h .1 .1 .1 .1 in
+      rw h (all-open Load (length ns) 0 (length ns) .within (c .0) (some-node t ns owns 0 (c .1)) (omega arith))
+
+  replace-within : (point : ℕ) (new newOwns : List ℕ) → replaceRefusal t m r point new newOwns ≡ 0 → beyond (replaceCall t m r point new newOwns .next) ≡ false
+  unfolding replaceCall
+  replace-within point new newOwns h =
+      let c = all-exactly t m r .replace point new newOwns .by0 .0 h .1 .1 .1 .1 .1 .1 in
+      let p : part t (nodesOf m (r .nodes)) point ≤ min (r .nodes) (length (m .productions)) - point =
+      rw (length-take (r .nodes) (m .productions)) at (part-most t (nodesOf m (r .nodes)) point) in
+      let q : point < r .nodes = c .0 in
+      let n : 0 < length new = some-node t new newOwns _ (c .1 .1) in
+      rw h (all-open Replacement (r .nodes - part t (nodesOf m (r .nodes)) point + length new) point (length new) .within (c .1 .0) (omega arith) (omega arith))
+
+pub all-open-within : AllOpenWithin
+all-open-within t m r = record { load = load-within t m r; replace = replace-within t m r }

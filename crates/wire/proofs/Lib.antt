@@ -1,0 +1,9 @@
+pub mod Places
+pub mod Lawful
+pub mod Unsown
+pub mod Staying
+pub mod Holding
+pub mod Rooms
+pub mod Reading
+pub mod Turning
+pub mod Ending

@@ -1,0 +1,39 @@
+-- The arrays that the wiring writes hold the system of the table and the tree. Assumes nothing.
+use mathlib.Core.Path.{_≡_}
+use mathlib.Core.Bool.{true}
+use mathlib.Core.List.{List, [], _∷_}
+use Prim.Native.Nat.{ℕ, _*_, _≤_, _<_}
+use lib.ListN.{length}
+use Rattle.table.specs.Judge.{judgeTable}
+use Rattle.tree.specs.Tree.{judgeNodes}
+use Rattle.circles.specs.Ranked.{member}
+use Rattle.climb.specs.System.{Assignment, System}
+use Rattle.climb.specs.Memory.{roundOn, stillOn}
+use Rattle.climb.specs.Wired.{wired, Wiring}
+use Rattle.wire.specs.Instances.{system}
+use Rattle.wire.specs.Arrays.{Wired}
+
+-- two systems have the same slots, instances, arguments and values
+pub record Alike (S S′ : System) : Type 0 where
+  pub size : S .size ≡ S′ .size
+  pub declared : (x : ℕ) → S .declared x ≡ S′ .declared x
+  pub args : (x : ℕ) → x < S .size → S .args x ≡ S′ .args x
+  pub value : (v : Assignment) (x : ℕ) → S .declared x ≡ true → S .eval v x ≡ S′ .eval v x
+
+-- the arrays' system is the tree's
+abbrev pub WiredAlike : Type 0
+WiredAlike = (t ns owns a₀ b₀ left₀ rule₀ a b left rule : List ℕ) → judgeTable t ≡ 0 → judgeNodes t ns (0 ∷ []) ≡ 0 → length ns ≤ 512
+    → Wired t ns a₀ b₀ left₀ rule₀ a b left rule → Alike (wired (8 * length ns) t owns a b left rule) (system t ns owns)
+
+-- every declared slot has a rule within the table and a node with an own set
+abbrev pub WiredWhole : Type 0
+WiredWhole = (t ns owns a₀ b₀ left₀ rule₀ a b left rule : List ℕ) → judgeTable t ≡ 0 → judgeNodes t ns (0 ∷ []) ≡ 0 → length ns ≤ 512 → length ns ≤ length owns
+    → Wired t ns a₀ b₀ left₀ rule₀ a b left rule → Wiring owns a b left rule (8 * length ns)
+
+-- so a round of instances over the one is a round over the other
+pub record SameRound (S S′ : System) (C s : List ℕ) : Type 0 where
+  pub stored : roundOn S C s ≡ roundOn S′ C s
+  pub still : stillOn S C s ≡ stillOn S′ C s
+
+abbrev pub RoundAlike : Type 0
+RoundAlike = (S S′ : System) → Alike S S′ → (C s : List ℕ) → ((x : ℕ) → member C x ≡ true → S .declared x ≡ true) → SameRound S S′ C s

@@ -1,0 +1,93 @@
+-- What is asked of the memory that the wiring works on, and what holds while it is made, node by node and position by position. Assumes nothing.
+use Prim.Native.Nat.{ℕ, zero, suc, _+_, _*_, _/_, _%_, _≤_, _<_}
+use mathlib.Core.Path.{_≡_}
+use mathlib.Core.Bool.{Bool, true, false}
+use mathlib.Core.List.{List, [], _∷_}
+use lib.ListN.{length, getD}
+use Rattle.table.specs.Words.{synthesized, inherited, childCount}
+use Rattle.table.specs.Judge.{judgeTable}
+use Rattle.tree.specs.Tree.{judgeNodes}
+use Rattle.tree.specs.Spans.{Ended}
+use Rattle.wire.specs.Instances.{indexOf, declared, placeOf, spot}
+use Rattle.wire.specs.Arrays.{firstAt, secondAt, leftAt, ruleIn}
+
+-- ---- what is asked
+
+-- a sound table, and a sound tree of at most 512 nodes
+pub record Held (t ns : List ℕ) : Type 0 where
+  pub judged : judgeTable t ≡ 0
+  pub sound : judgeNodes t ns (0 ∷ []) ≡ 0
+  pub few : length ns ≤ 512
+
+-- the end of every node's subtree
+pub record Ends (t ns ends : List ℕ) : Type 0 where
+  pub long : length ns ≤ length ends
+  pub ended : Ended t ns 0 ends
+
+-- the lent arrays have room for n slots
+pub record Room (n : ℕ) (a b left rule : List ℕ) : Type 0 where
+  pub firsts : n ≤ length a
+  pub seconds : n ≤ length b
+  pub lefts : n ≤ length left
+  pub rules : n ≤ length rule
+
+-- ---- one node
+
+-- the places of node q and its children, by position
+pub record Kids (t ns : List ℕ) (q : ℕ) (kids : List ℕ) : Type 0 where
+  pub place : (at : ℕ) → at ≤ childCount t (getD ns q 0) → getD kids at 0 ≡ spot t ns q at
+
+-- the instance that an argument, 256 · position + index, names there
+unfoldable pub namedIn : List ℕ → ℕ → ℕ
+namedIn kids o = 8 * getD kids (o / 256) 0 + o % 256
+
+-- an argument that is read has a position and names an instance
+pub record Fit (kids : List ℕ) (used : Bool) (o : ℕ) : Type 0 where
+  pub place : used ≡ true → o / 256 ≤ 4
+  pub small : used ≡ true → namedIn kids o < 4096
+
+-- the index of the first set that a position defines: the left symbol's synthesized ones, a child's inherited ones
+abbrev pub firstIndex : ℕ → ℕ
+firstIndex zero = 0
+firstIndex (suc k) = 4
+
+-- how many they are, where the position's symbol is s
+abbrev pub setsOf : List ℕ → ℕ → ℕ → ℕ
+setsOf t s zero = synthesized t s
+setsOf t s (suc k) = inherited t s
+
+-- ---- in the midst
+
+-- what the arrays hold for slot x
+pub record Wires (t ns : List ℕ) (x first second node rule : ℕ) : Type 0 where
+  pub firsts : first ≡ firstAt t ns x
+  pub seconds : second ≡ secondAt t ns x
+  pub lefts : node ≡ leftAt t ns x
+  pub rules : rule ≡ ruleIn t ns x
+
+-- when an instance has its turn
+abbrev pub turn : List ℕ → List ℕ → ℕ → ℕ
+turn t ns x = 20 * placeOf t ns x .node + 4 * placeOf t ns x .position + indexOf x % 4
+
+-- the instances with turns before n are wired, and the slots that are not declared are marked
+pub record Partly (t ns : List ℕ) (n : ℕ) (a b left rule : List ℕ) : Type 0 where
+  pub done : (x : ℕ) → declared t ns x ≡ true → turn t ns x < n → Wires t ns x (getD a x 0) (getD b x 0) (getD left x 0) (getD rule x 0)
+  pub marked : (x : ℕ) → x < 8 * length ns → declared t ns x ≡ false → Wires t ns x (getD a x 0) (getD b x 0) (getD left x 0) (getD rule x 0)
+
+-- the first n slots are marked as not declared
+pub record Blank (n : ℕ) (a b left rule : List ℕ) : Type 0 where
+  pub firsts : (x : ℕ) → x < n → getD a x 0 ≡ 65534
+  pub seconds : (x : ℕ) → x < n → getD b x 0 ≡ 65534
+  pub lefts : (x : ℕ) → x < n → getD left x 0 ≡ 0
+  pub rules : (x : ℕ) → x < n → getD rule x 0 ≡ 0
+
+-- from n on, l′ is l
+pub record Behind (n : ℕ) (l l′ : List ℕ) : Type 0 where
+  pub long : length l′ ≡ length l
+  pub others : (x : ℕ) → n ≤ x → getD l′ x 0 ≡ getD l x 0
+
+pub record Stay (n : ℕ) (a b left rule a′ b′ left′ rule′ : List ℕ) : Type 0 where
+  pub firsts : Behind n a a′
+  pub seconds : Behind n b b′
+  pub lefts : Behind n left left′
+  pub rules : Behind n rule rule′
