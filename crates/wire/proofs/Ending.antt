@@ -9,6 +9,7 @@ use native.Mathlib.Numerals.{add-one}
 use native.Mathlib.Omega.{arith}
 use Rattle.table.specs.Words.{childCount}
 use Rattle.tree.specs.Tree.{childAt}
+use Rattle.tree.specs.Spans.{Spans}
 use Rattle.tree.proofs.Size.{child-first, turn-in}
 use Rattle.circles.specs.Arrays.{over}
 use Rattle.wire.specs.Instances.{spot}
@@ -16,6 +17,10 @@ use Rattle.wire.specs.Arrays.{firstAt, secondAt, leftAt, ruleIn, bySlot,
 use Rattle.wire.specs.Turns.{Held, Ends, Room, Kids, Partly, Behind, Stay}
 use Rattle.wire.proofs.Holding.{slots-length, slot-at}
 use Rattle.wire.proofs.Turning.{few-children, spot-below, partly-all}
+
+-- the ends as `spans` of the trees leaves them
+pub spans-ends : {t ns before ends : List ℕ} → length ns ≤ length before → Spans t ns before ends → Ends t ns ends
+spans-ends h s = record { long = omega (arith, h, s .long); ended = s .nodes }
 
 -- ---- the places of a node and its first k children
 

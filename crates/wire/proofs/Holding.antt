@@ -28,9 +28,9 @@ use Rattle.climb.specs.Wired.{readOf, evalOf, wired}
 use Rattle.climb.proofs.Lists.{either}
 use Rattle.wire.specs.Instances.{declared, placeOf, ruleAt, opAt, named, argsAt, evalAt, system}
 use Rattle.wire.specs.Arrays.{firstAt, secondAt, leftAt, ruleIn, bySlot, Wired}
-use Rattle.wire.specs.ArrayLaws.{WiredAlike, WiredWhole, RoundAlike}
+use Rattle.wire.specs.ArrayLaws.{Alike, WiredAlike, WiredWhole, WiredGiven, RoundAlike}
 use Rattle.wire.proofs.Places.{declared-below, place-defined, defined-has, defined-rule, number-in}
-use Rattle.wire.proofs.Lawful.{args-closed}
+use Rattle.wire.proofs.Lawful.{args-declared, args-closed}
 
 -- ---- lists of at most two arguments, each below n
 
@@ -186,6 +186,22 @@ wired-whole t ns owns a₀ b₀ left₀ rule₀ a b left rule g e few long w = r
   ruled = λ x d. rule-held t ns owns a₀ b₀ left₀ rule₀ a b left rule g e few w x (sym (same-declared t ns owns a₀ b₀ left₀ rule₀ a b left rule g e few w x) ∙ d);
   owned = λ x d. le-trans (left-held t ns owns a₀ b₀ left₀ rule₀ a b left rule g e few w x (sym (same-declared t ns owns a₀ b₀ left₀ rule₀ a b left rule g e few w x) ∙ d)) long;
 }
+
+pub wired-given : WiredGiven
+wired-given t ns a₀ b₀ left₀ rule₀ a b left rule g e few w = record {
+  few = omega arith;
+  long-a = held-long ns (firstAt t ns) a₀ a (w .firsts);
+  long-b = held-long ns (secondAt t ns) b₀ b (w .seconds);
+  closed = record {
+    bound = λ x d. declared-below t ns x (sym (alike .declared x) ∙ d);
+    closed = λ x d y m.
+        let c : declared t ns x ≡ true = sym (alike .declared x) ∙ d in
+        alike .declared y ∙ args-closed t ns g e x c y (rw (alike .args x (declared-below t ns x c), args-declared t ns [] x c) at m);
+  };
+}
+  where
+    alike : Alike (wired (8 * length ns) t [] a b left rule) (system t ns [])
+    alike = wired-alike t ns [] a₀ b₀ left₀ rule₀ a b left rule g e few w
 
 -- ---- rounds
 

@@ -7,6 +7,7 @@ use lib.ListN.{length}
 use Rattle.table.specs.Judge.{judgeTable}
 use Rattle.tree.specs.Tree.{judgeNodes}
 use Rattle.circles.specs.Ranked.{member}
+use Rattle.circles.specs.Labels.{Given}
 use Rattle.climb.specs.System.{Assignment, System}
 use Rattle.climb.specs.Memory.{roundOn, stillOn}
 use Rattle.climb.specs.Wired.{wired, Wiring}
@@ -29,6 +30,11 @@ WiredAlike = (t ns owns a₀ b₀ left₀ rule₀ a b left rule : List ℕ) → 
 abbrev pub WiredWhole : Type 0
 WiredWhole = (t ns owns a₀ b₀ left₀ rule₀ a b left rule : List ℕ) → judgeTable t ≡ 0 → judgeNodes t ns (0 ∷ []) ≡ 0 → length ns ≤ 512 → length ns ≤ length owns
     → Wired t ns a₀ b₀ left₀ rule₀ a b left rule → Wiring owns a b left rule (8 * length ns)
+
+-- and the two argument arrays are what the circles are computed from
+abbrev pub WiredGiven : Type 0
+WiredGiven = (t ns a₀ b₀ left₀ rule₀ a b left rule : List ℕ) → judgeTable t ≡ 0 → judgeNodes t ns (0 ∷ []) ≡ 0 → length ns ≤ 512
+    → Wired t ns a₀ b₀ left₀ rule₀ a b left rule → Given (8 * length ns) a b
 
 -- so a round of instances over the one is a round over the other
 pub record SameRound (S S′ : System) (C s : List ℕ) : Type 0 where
