@@ -250,27 +250,45 @@ fn try_circle(
     take_circle(n, a, b, first, next, x, rep, seen, queue);
 }
 
-// Labels every circle of declared slots by one of its own: first in the order given, whatever that is, and then what is left.
-fn label_circles(
+// Labels the circles of what the order lists from the place given on, whatever that is, each by one of its own.
+fn label_in_order(
     n: usize,
     a: &[u16; 4096],
     b: &[u16; 4096],
     first: &[u16; 4096],
     next: &[u16; 8192],
     order: &[u16; 4096],
+    from: usize,
     rep: &mut [u16; 4096],
     seen: &mut [u16; 4096],
     queue: &mut [u16; 4096],
 )
     requires { ⌜ (n ≤ 4096) × Chained (argOf (now a) (now b)) (2 * n) n (now first) (now next) ⌝ }
     requires { ⌜ Blank n (now rep) × Blank n (now seen) × (length (now queue) ≡ 4096) ⌝ }
-    ensures { λ _. ⌜ Reps n (now (a .entry)) (now (b .entry)) (now (rep .exit)) × ((y : ℕ) → y < n → (getD (now (a .entry)) y 0 ≡ 65534 → ⊥) → getD (now (rep .exit)) y 0 < n) ⌝ }
+    ensures { λ _. ⌜ Reps n (now (a .entry)) (now (b .entry)) (now (rep .exit)) × Stale n (now (seen .exit)) (now (rep .exit)) × (length (now (queue .exit)) ≡ 4096) ⌝ }
 {
-    let mut i: usize = 0;
+    let mut i = from;
     while i < n {
         try_circle(n, a, b, first, next, order[i], rep, seen, queue);
         i += 1;
     }
+}
+
+// Labels what is left: then every circle of declared slots has its label.
+fn label_rest(
+    n: usize,
+    a: &[u16; 4096],
+    b: &[u16; 4096],
+    first: &[u16; 4096],
+    next: &[u16; 8192],
+    rep: &mut [u16; 4096],
+    seen: &mut [u16; 4096],
+    queue: &mut [u16; 4096],
+)
+    requires { ⌜ (n ≤ 4096) × Chained (argOf (now a) (now b)) (2 * n) n (now first) (now next) ⌝ }
+    requires { ⌜ Reps n (now a) (now b) (now rep) × Stale n (now seen) (now rep) × (length (now queue) ≡ 4096) ⌝ }
+    ensures { λ _. ⌜ Reps n (now (a .entry)) (now (b .entry)) (now (rep .exit)) × ((y : ℕ) → y < n → (getD (now (a .entry)) y 0 ≡ 65534 → ⊥) → getD (now (rep .exit)) y 0 < n) ⌝ }
+{
     let mut j: usize = 0;
     while j < n {
         try_circle(n, a, b, first, next, j as u16, rep, seen, queue);
@@ -318,20 +336,22 @@ pub fn circle_labels(
     let mut order = [65535u16; 4096];
     let mut queue = [0u16; 4096];
     let mut stage = [0u16; 4096];
-    leaving_order(n, a, b, &mut order, &mut queue, &mut stage);
+    let from = leaving_order(n, a, b, &mut order, &mut queue, &mut stage);
     let mut rep = [65535u16; 4096];
     let mut seen = [65535u16; 4096];
-    label_circles(
+    label_in_order(
         n,
         a,
         b,
         first,
         next,
         &order,
+        from,
         &mut rep,
         &mut seen,
         &mut queue,
     );
+    label_rest(n, a, b, first, next, &mut rep, &mut seen, &mut queue);
     let mut low = [65535u16; 4096];
     chain_members(n, &rep, &mut low, after);
     least_labels(n, &rep, &low, label);

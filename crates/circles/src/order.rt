@@ -102,7 +102,7 @@ fn walk_new(
     walk(n, a, b, root, from, order, stack, stage)
 }
 
-// An order of the slots in which the labelling does little work: by falling time of leaving in a depth-first walk. Nothing rests on it.
+// An order of the slots in which the labelling does little work: by falling time of leaving in a depth-first walk. Where it begins. Nothing rests on it.
 pub fn leaving_order(
     n: usize,
     a: &[u16; 4096],
@@ -110,7 +110,7 @@ pub fn leaving_order(
     order: &mut [u16; 4096],
     stack: &mut [u16; 4096],
     stage: &mut [u16; 4096],
-)
+) -> usize
     requires { ⌜ (n ≤ 4096) × (length (now stack) ≡ 4096) ⌝ }
     ensures { λ _. ⌜ length (now (stack .exit)) ≡ 4096 ⌝ }
 {
@@ -120,4 +120,5 @@ pub fn leaving_order(
         at = walk_new(n, a, b, root, at, order, stack, stage);
         root += 1;
     }
+    at
 }
