@@ -7,7 +7,7 @@ use lib.ListN.{length}
 use Rattle.table.specs.Judge.{judgeTable}
 use Rattle.tree.specs.Tree.{judgeNodes}
 use Rattle.circles.specs.Ranked.{member}
-use Rattle.circles.specs.Labels.{Given}
+use Rattle.circles.specs.Arrays.{Given}
 use Rattle.climb.specs.System.{Assignment, System}
 use Rattle.climb.specs.Memory.{roundOn, stillOn}
 use Rattle.climb.specs.Wired.{wired, Wiring}

@@ -1,0 +1,4 @@
+pub mod Orders
+pub mod Tests
+pub mod Answers
+pub mod Parts

@@ -1,0 +1,19 @@
+// The engine's calls, each whole: for any table, tree, record and memory.
+mod opening;
+mod reading;
+mod refuse;
+mod trees;
+
+pub use opening::load;
+pub use opening::load_judged;
+pub use opening::replace;
+pub use opening::replace_judged;
+pub use reading::read;
+use refusal::Verdict;
+use update::Record;
+
+// What a load or a replacement answers, and the record that it leaves.
+pub struct Begun {
+    pub verdict: Verdict,
+    pub record: Record,
+}

@@ -1,0 +1,34 @@
+// Reading a set of the held tree.
+use crate::refuse::judge_look;
+use crate::trees::is_declared;
+use refusal::Refusal;
+use refusal::Verdict;
+use update::Reading;
+use update::Record;
+ghost use mathlib.Core.Path.{_≡_};
+ghost use Rattle.update.specs.Calls.{readingSays, readCall};
+ghost use Rattle.engine.specs.Lent.{lent};
+
+// The set of a declared instance, with no update open; nothing is changed.
+pub fn read(
+    table: &[u64; 2657],
+    record: Record,
+    held: &[u8],
+    held_owns: &[u64],
+    sets: &[u64],
+    before: &[u64],
+    instance: usize,
+) -> Reading
+    ensures { λ r. ⌜ readingSays r ≡ readCall (now (table .entry)) (lent (now (held .entry)) (now («held_owns» .entry)) (now (sets .entry)) (now (before .entry))) «record» instance ⌝ }
+{
+    match judge_look(table, record, held, held_owns, sets, before) {
+        Verdict::Sound => {
+            if is_declared(table, held, record.nodes, instance) {
+                let set = sets[instance];
+                return Reading::Set(set);
+            }
+            Reading::Refused(Refusal::Undeclared)
+        }
+        Verdict::Refused(r) => Reading::Refused(r),
+    }
+}
