@@ -23,12 +23,12 @@ left-refused : {A : Type 0} (n : ℕ) (r : Record) (m : Memory) (l : Left (Said 
 left-refused zero r m l h = absurd (omega arith)
 left-refused (suc n) r m l h = refl
 
-left-carried : {A : Type 0} (n : ℕ) (r : Record) (m : Memory) (l : Left (Said A)) → n ≡ 0 → l ≡ unless n r m l
+pub left-carried : {A : Type 0} (n : ℕ) (r : Record) (m : Memory) (l : Left (Said A)) → n ≡ 0 → l ≡ unless n r m l
 left-carried zero r m l h = refl
 left-carried (suc n) r m l h = absurd (omega arith)
 
 -- "A refusal returns its number and changes nothing lent."
-by : {A : Type 0} (q : Refusal) (n : ℕ) (r : Record) (m : Memory) (l : Left (Said A)) → numberOf q ≡ n → record { answer = refused (numberOf q); next = r; memory = m } ≡ unless n r m l
+pub by : {A : Type 0} (q : Refusal) (n : ℕ) (r : Record) (m : Memory) (l : Left (Said A)) → numberOf q ≡ n → record { answer = refused (numberOf q); next = r; memory = m } ≡ unless n r m l
 by q n r m l e = rw (← e) (left-refused (numberOf q) r m l (number-low q))
 
 module _ (t : List ℕ) (m : Memory) (r : Record) (ns owns : List ℕ) where

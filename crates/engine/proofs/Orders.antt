@@ -21,11 +21,11 @@ use Rattle.climb.proofs.Lists.{either}
 use Rattle.update.specs.declared.Record.{Record}
 use Rattle.update.specs.Records.{isOpen, beyond}
 use Rattle.update.specs.Memories.{Memory, nodesOf}
-use Rattle.update.specs.Refusals.{firstRefusal, when, short, heldRefusal, loadRefusal, passes, replaceRefusal, readRefusal}
+use Rattle.update.specs.Refusals.{firstRefusal, when, short, heldRefusal, loadRefusal, passes, replaceRefusal, stepRefusal, readRefusal}
 use Rattle.update.specs.Within.{Roomy, WithinLimits}
 use Rattle.update.proofs.Within.{short-means, beyond-means}
 use Rattle.wire.specs.Instances.{declared}
-use Rattle.engine.specs.Order.{groundNumbers, loadNumbers, lookNumbers, pointNumbers, partNumbers, Grounded, Holding}
+use Rattle.engine.specs.Order.{groundNumbers, loadNumbers, heldNumbers, lookNumbers, pointNumbers, partNumbers, goingNumbers, Grounded, Holding, Going}
 
 module _ (l k : List ℕ) where
   -- where the first part refuses nothing the second decides
@@ -107,6 +107,35 @@ module _ (t : List ℕ) (m : Memory) (r : Record) where
     pub read-stopped : (q : Refusal) → numberOf q ≡ firstRefusal (lookNumbers t m r) → numberOf q ≡ readRefusal t m r x
     unfolding readRefusal
     read-stopped q e = stopped (lookNumbers t m r) (when (not (declared t (nodesOf m (r .nodes)) x)) 12 ∷ []) q e
+
+  -- ---- a step and a run
+
+  pub step-past : Grounded t m r → stepRefusal t m r ≡ firstRefusal (goingNumbers t (m .productions) (m .owns) r)
+  unfolding stepRefusal
+  step-past g = past (groundNumbers t m r) (goingNumbers t (m .productions) (m .owns) r) (ground-none g)
+
+  pub step-stopped : (q : Refusal) → numberOf q ≡ firstRefusal (groundNumbers t m r) → numberOf q ≡ stepRefusal t m r
+  unfolding stepRefusal
+  step-stopped q e = stopped (groundNumbers t m r) (goingNumbers t (m .productions) (m .owns) r) q e
+
+  pub going : stepRefusal t m r ≡ 0 → Going t m r
+  unfolding stepRefusal first
+  going h =
+      let rest = goingNumbers t (m .productions) (m .owns) r in
+      let a = or-none (firstRefusal (groundNumbers t m r)) (firstRefusal rest) (sym (first-append (λ (n : ℕ). n) (groundNumbers t m r) rest) ∙ h) in
+      let b = or-none (when (not (r .held)) 16) (orElse (heldRefusal t m r) (orElse (when (not (isOpen (r .«open»))) 17) 0)) (a .1) in
+      let c = or-none (heldRefusal t m r) (orElse (when (not (isOpen (r .«open»))) 17) 0) (b .1) in
+      let d = or-none (when (not (isOpen (r .«open»))) 17) 0 (c .1) in
+      record {
+        ground = grounded (a .0);
+        held = not-false (r .held) (unmet (not (r .held)) 15 (b .0));
+        tree = c .0;
+        busy = not-false (isOpen (r .«open»)) (unmet (not (isOpen (r .«open»))) 16 (d .0));
+      }
+
+  pub step-none : Going t m r → stepRefusal t m r ≡ 0
+  unfolding first
+  step-none k = step-past (k .ground) ∙ rw (k .held, k .tree, k .busy)
 
   -- ---- a replacement
 
@@ -233,3 +262,16 @@ parts t tree nodes point old new newOwns h =
     let j = judgeTree t new newOwns (leftOf t (getD tree point 0)) in
     let a = or-none (when (ltb 512 (nodes - old + length new)) 8) (orElse j 0) h in
     record { few = ltb-false 512 (nodes - old + length new) (unmet (ltb 512 (nodes - old + length new)) 7 (a .0)); sound = or-none j 0 (a .1) .0 }
+
+-- ---- 16 and the held tree's, then 17
+module _ (t held owns : List ℕ) (r : Record) where
+  pub going-on : firstRefusal (heldNumbers t held owns r) ≡ 0 → isOpen (r .«open») ≡ true → 0 ≡ firstRefusal (goingNumbers t held owns r)
+  unfolding first
+  going-on z o = sym (past (heldNumbers t held owns r) (when (not (isOpen (r .«open»))) 17 ∷ []) z ∙ rw o)
+
+  pub going-idle : firstRefusal (heldNumbers t held owns r) ≡ 0 → isOpen (r .«open») ≡ false → 17 ≡ firstRefusal (goingNumbers t held owns r)
+  unfolding first
+  going-idle z o = sym (past (heldNumbers t held owns r) (when (not (isOpen (r .«open»))) 17 ∷ []) z ∙ rw o)
+
+  pub going-stopped : (q : Refusal) → numberOf q ≡ firstRefusal (heldNumbers t held owns r) → numberOf q ≡ firstRefusal (goingNumbers t held owns r)
+  going-stopped q e = stopped (heldNumbers t held owns r) (when (not (isOpen (r .«open»))) 17 ∷ []) q e

@@ -5,7 +5,11 @@ use Rattle.refusal.specs.Numbers.{numberOf}
 use Rattle.refusal.specs.declared.Verdict.{Verdict}
 use Rattle.refusal.specs.declared.Verdict.the-variants.{Sound, Refused}
 use Rattle.update.specs.Memories.{Memory}
-use Rattle.update.specs.Calls.{Said, refused, said, Left, Opened, is-open}
+use Rattle.update.specs.Steps.{Outcome}
+use Rattle.update.specs.Calls.{Said, refused, said, answerSays, Ranged, runSays, Left, Opened, is-open}
+use Rattle.update.specs.declared.Record.{Record}
+use Rattle.update.specs.declared.Answer.{Answer}
+use Rattle.update.specs.declared.Run.{Run}
 use Rattle.engine.specs.declared.Begun.{Begun}
 
 -- productions, own sets, sets and before values, as they are lent
@@ -20,3 +24,11 @@ openedSays (Refused r) = refused (numberOf r)
 -- a load or a replacement's answer and record, with the memory that it left
 abbrev pub begun : Begun → Memory → Left (Said Opened)
 begun b m = record { answer = openedSays (b .verdict); next = b .«record»; memory = m }
+
+-- a step's
+abbrev pub stepped : Answer → Record → Memory → Left (Said Outcome)
+stepped a r m = record { answer = answerSays a; next = r; memory = m }
+
+-- a run's
+abbrev pub advanced : Run → Record → Memory → Left (Said Ranged)
+advanced a r m = record { answer = runSays a; next = r; memory = m }

@@ -26,6 +26,10 @@ loadNumbers t r ns owns = when (isOpen (r .«open»)) 10 ∷ when (ltb nodesMost
 abbrev pub heldNumbers : List ℕ → List ℕ → List ℕ → Record → List ℕ
 heldNumbers t held owns r = when (not (r .held)) 16 ∷ judgeTree t (take (r .nodes) held) (take (r .nodes) owns) 0 ∷ []
 
+-- and 17: what comes behind the first in a step and a run
+abbrev pub goingNumbers : List ℕ → List ℕ → List ℕ → Record → List ℕ
+goingNumbers t held owns r = heldNumbers t held owns r ++ (when (not (isOpen (r .«open»))) 17 ∷ [])
+
 -- what comes first in a replacement and a reading: 15, 1 to 5, 11, 10, 16, held tree 6/7
 abbrev pub lookNumbers : List ℕ → Memory → Record → List ℕ
 lookNumbers t m r = groundNumbers t m r ++ (when (isOpen (r .«open»)) 10 ∷ heldNumbers t (m .productions) (m .owns) r)
@@ -47,3 +51,10 @@ pub record Grounded (t : List ℕ) (m : Memory) (r : Record) : Type 0 where
 pub record Holding (t : List ℕ) (m : Memory) (r : Record) : Type 0 where
   pub ground : Grounded t m r
   pub tree : r .held ≡ true → heldRefusal t m r ≡ 0
+
+-- what a step and a run are refused by none of
+pub record Going (t : List ℕ) (m : Memory) (r : Record) : Type 0 where
+  pub ground : Grounded t m r
+  pub held : r .held ≡ true
+  pub tree : heldRefusal t m r ≡ 0
+  pub busy : isOpen (r .«open») ≡ true

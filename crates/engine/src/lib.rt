@@ -3,6 +3,7 @@ mod opening;
 mod reading;
 mod refuse;
 mod trees;
+mod working;
 
 pub use opening::load;
 pub use opening::load_judged;
@@ -11,6 +12,9 @@ pub use opening::replace_judged;
 pub use reading::read;
 use refusal::Verdict;
 use update::Record;
+pub use working::prepare;
+pub use working::run_record;
+pub use working::step;
 
 // What a load or a replacement answers, and the record that it leaves.
 pub struct Begun {

@@ -15,9 +15,9 @@ ghost use Rattle.refusal.specs.Numbers.{verdictOf};
 ghost use Rattle.table.specs.Judge.{judgeTable};
 ghost use Rattle.memory.specs.Numbered.{Numbered};
 ghost use Rattle.update.specs.Records.{isOpen, beyond};
-ghost use Rattle.update.specs.Refusals.{firstRefusal, short};
+ghost use Rattle.update.specs.Refusals.{firstRefusal, short, stepRefusal};
 ghost use Rattle.engine.specs.Lent.{lent};
-ghost use Rattle.engine.specs.Order.{groundNumbers, loadNumbers, heldNumbers, lookNumbers, pointNumbers, partNumbers};
+ghost use Rattle.engine.specs.Order.{groundNumbers, loadNumbers, heldNumbers, goingNumbers, lookNumbers, pointNumbers, partNumbers};
 
 // 15: whether a lent buffer is shorter than 512 nodes or 4,096 sets.
 fn is_short(held: &[u8], held_owns: &[u64], sets: &[u64], before: &[u64]) -> bool
@@ -206,4 +206,39 @@ pub fn judge_part(
         return Verdict::Refused(Refusal::Shape);
     }
     judge_nodes(table, new, left_of(table, wide(held[point])))
+}
+
+// 16, the held tree's 6/7, 17.
+fn judge_going(table: &[u64; 2657], record: Record, held: &[u8], held_owns: &[u64]) -> Verdict
+    requires { ⌜ judgeTable (now table) ≡ 0 ⌝ }
+    requires { ⌜ («record» .nodes ≤ length (now held)) × («record» .nodes ≤ length (now «held_owns»)) ⌝ }
+    ensures { λ r. ⌜ verdictOf r ≡ firstRefusal (goingNumbers (now (table .entry)) (now (held .entry)) (now («held_owns» .entry)) «record») ⌝ }
+{
+    match judge_holding(table, record, held, held_owns) {
+        Verdict::Sound => {
+            let open = record.open;
+            if is_open(open) {
+                return Verdict::Sound;
+            }
+            Verdict::Refused(Refusal::Idle)
+        }
+        Verdict::Refused(r) => Verdict::Refused(r),
+    }
+}
+
+// What a step and a run are refused by: 15, 1 to 5, 11, 16, 6/7, 17.
+pub fn judge_step(
+    table: &[u64; 2657],
+    record: Record,
+    held: &[u8],
+    held_owns: &[u64],
+    sets: &[u64],
+    before: &[u64],
+) -> Verdict
+    ensures { λ r. ⌜ verdictOf r ≡ stepRefusal (now (table .entry)) (lent (now (held .entry)) (now («held_owns» .entry)) (now (sets .entry)) (now (before .entry))) «record» ⌝ }
+{
+    match judge_ground(table, record, held, held_owns, sets, before) {
+        Verdict::Sound => judge_going(table, record, held, held_owns),
+        Verdict::Refused(r) => Verdict::Refused(r),
+    }
 }

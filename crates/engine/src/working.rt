@@ -1,0 +1,191 @@
+// Step and run: the rounds of an open update.
+use crate::refuse::judge_step;
+use circles::rank_circles;
+use refusal::Verdict;
+use steps::Advanced;
+use steps::Stepped;
+use steps::run_in;
+use steps::step_in;
+use tree::spans;
+use update::Answer;
+use update::Record;
+use update::Run;
+use wire::wire_tree;
+ghost use mathlib.Core.Path.{_≡_};
+ghost use Rattle.wire.specs.Turns.{Held};
+ghost use Rattle.update.specs.Calls.{stepCall, runCall};
+ghost use Rattle.engine.specs.Lent.{lent, stepped, advanced};
+ghost use Rattle.engine.specs.Order.{Going};
+ghost use Rattle.engine.specs.Prepared.{Scratch, Prepared};
+
+// Fills the arrays of the wiring and of the ranked circles of a sound tree, and says how many circles there are: once for all the steps of an update.
+pub fn prepare<'a>(
+    table: &'a [u64; 2657],
+    tree: &'a [u8],
+    a: &mut [u16; 4096],
+    b: &mut [u16; 4096],
+    left: &mut [u16],
+    rule: &mut [u16],
+    label: &mut [u16],
+    members: &mut [u16],
+    ends: &mut [u16],
+) -> usize
+    requires { ⌜ Held (now table) (now tree) ⌝ }
+    requires { ⌜ Scratch (now a) (now b) (now left) (now rule) (now label) (now members) (now ends) ⌝ }
+    ensures { λ r. ⌜ Prepared (now (table .entry)) (now (tree .entry)) (now (a .entry)) (now (b .entry)) (now (left .entry)) (now (rule .entry)) (now (label .entry)) (now (members .entry)) (now (ends .entry)) (now (a .exit)) (now (b .exit)) (now (left .exit)) (now (rule .exit)) (now (label .exit)) (now (members .exit)) (now (ends .exit)) r ⌝ }
+{
+    let mut places = [0u16; 512];
+    spans(table, tree, &mut places);
+    wire_tree(table, tree, &places, a, b, left, rule);
+    let n = 8 * tree.len();
+    rank_circles(n, a, b, label, members, ends)
+}
+
+// A step where nothing refuses it.
+fn step_going<'a>(
+    table: &'a [u64; 2657],
+    record: Record,
+    held: &'a [u8],
+    held_owns: &'a [u64],
+    sets: &mut [u64],
+    before: &'a [u64],
+) -> Stepped
+    requires { ⌜ Going (now table) (lent (now held) (now «held_owns») (now sets) (now before)) «record» ⌝ }
+    ensures { λ r. ⌜ stepped (r .answer) (r .record) (lent (now (held .entry)) (now («held_owns» .entry)) (now (sets .exit)) (now (before .entry))) ≡ stepCall (now (table .entry)) (lent (now (held .entry)) (now («held_owns» .entry)) (now (sets .entry)) (now (before .entry))) «record» ⌝ }
+{
+    let nodes = record.nodes;
+    let mut a = [0u16; 4096];
+    let mut b = [0u16; 4096];
+    let mut left = [0u16; 4096];
+    let mut rule = [0u16; 4096];
+    let mut label = [0u16; 4096];
+    let mut members = [0u16; 4096];
+    let mut ends = [0u16; 4097];
+    let mut values = [0u64; 4096];
+    let tree = &held[..nodes];
+    let count = prepare(
+        table,
+        tree,
+        &mut a,
+        &mut b,
+        &mut left,
+        &mut rule,
+        &mut label,
+        &mut members,
+        &mut ends,
+    );
+    let owns = &held_owns[..nodes];
+    step_in(
+        table,
+        owns,
+        &a,
+        &b,
+        &left,
+        &rule,
+        &label,
+        &members,
+        &ends,
+        count,
+        8 * nodes,
+        before,
+        record,
+        sets,
+        &mut values,
+    )
+}
+
+// "One step takes the first due circle in rank not yet closed and makes one round."
+pub fn step<'a>(
+    table: &'a [u64; 2657],
+    record: Record,
+    held: &'a [u8],
+    held_owns: &'a [u64],
+    sets: &mut [u64],
+    before: &'a [u64],
+) -> Stepped
+    ensures { λ r. ⌜ stepped (r .answer) (r .record) (lent (now (held .entry)) (now («held_owns» .entry)) (now (sets .exit)) (now (before .entry))) ≡ stepCall (now (table .entry)) (lent (now (held .entry)) (now («held_owns» .entry)) (now (sets .entry)) (now (before .entry))) «record» ⌝ }
+{
+    match judge_step(table, record, held, held_owns, &*sets, before) {
+        Verdict::Sound => step_going(table, record, held, held_owns, sets, before),
+        Verdict::Refused(r) => Stepped {
+            answer: Answer::Refused(r),
+            record: record,
+        },
+    }
+}
+
+// A run where nothing refuses it.
+fn run_going<'a>(
+    table: &'a [u64; 2657],
+    record: Record,
+    held: &'a [u8],
+    held_owns: &'a [u64],
+    sets: &mut [u64],
+    before: &'a [u64],
+    budget: u64,
+) -> Advanced
+    requires { ⌜ Going (now table) (lent (now held) (now «held_owns») (now sets) (now before)) «record» ⌝ }
+    ensures { λ r. ⌜ advanced (r .answer) (r .record) (lent (now (held .entry)) (now («held_owns» .entry)) (now (sets .exit)) (now (before .entry))) ≡ runCall (now (table .entry)) (lent (now (held .entry)) (now («held_owns» .entry)) (now (sets .entry)) (now (before .entry))) «record» budget ⌝ }
+{
+    let nodes = record.nodes;
+    let mut a = [0u16; 4096];
+    let mut b = [0u16; 4096];
+    let mut left = [0u16; 4096];
+    let mut rule = [0u16; 4096];
+    let mut label = [0u16; 4096];
+    let mut members = [0u16; 4096];
+    let mut ends = [0u16; 4097];
+    let mut values = [0u64; 4096];
+    let tree = &held[..nodes];
+    let count = prepare(
+        table,
+        tree,
+        &mut a,
+        &mut b,
+        &mut left,
+        &mut rule,
+        &mut label,
+        &mut members,
+        &mut ends,
+    );
+    let owns = &held_owns[..nodes];
+    run_in(
+        table,
+        owns,
+        &a,
+        &b,
+        &left,
+        &rule,
+        &label,
+        &members,
+        &ends,
+        count,
+        8 * nodes,
+        before,
+        budget,
+        record,
+        sets,
+        &mut values,
+    )
+}
+
+// "A run is steps until done or until the caller's budget of rounds is used up": by value of the record.
+pub fn run_record<'a>(
+    table: &'a [u64; 2657],
+    record: Record,
+    held: &'a [u8],
+    held_owns: &'a [u64],
+    sets: &mut [u64],
+    before: &'a [u64],
+    budget: u64,
+) -> Advanced
+    ensures { λ r. ⌜ advanced (r .answer) (r .record) (lent (now (held .entry)) (now («held_owns» .entry)) (now (sets .exit)) (now (before .entry))) ≡ runCall (now (table .entry)) (lent (now (held .entry)) (now («held_owns» .entry)) (now (sets .entry)) (now (before .entry))) «record» budget ⌝ }
+{
+    match judge_step(table, record, held, held_owns, &*sets, before) {
+        Verdict::Sound => run_going(table, record, held, held_owns, sets, before, budget),
+        Verdict::Refused(r) => Advanced {
+            answer: Run::Refused(r),
+            record: record,
+        },
+    }
+}
