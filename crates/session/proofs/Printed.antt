@@ -28,17 +28,19 @@ use Rattle.frames.specs.Walk.{seekFrom, nextOf}
 use Rattle.frames.specs.Written.{refusalOf}
 use Rattle.frames.specs.Read.{wordOf, constantOf, wordsAfter, takenAt}
 use Rattle.frames.specs.Out.{roundText, doneText, setText, dumpText, refusalText}
-use Rattle.session.specs.Session.{tableFrom, readTable, nodesFrom, stepsTold, dumpTold, commandsFrom, ownMemory, session}
+use Rattle.frames.specs.Reading.{readOn, readingAt}
+use Rattle.frames.specs.Planting.{nodesAt}
+use Rattle.session.specs.Session.{stepsTold, dumpTold, commandsFrom, ownMemory, session}
 use Rattle.session.specs.Example.{textA, printedA, SessionA, refusedText, refusedPrinted, SessionRefused, SessionEmpty}
 
 pub session-a : SessionA
-unfolding ones valueOf argumentsOf first row someBelow symbolCount productionCount synthesized inherited leftOf childCount childOf childrenFrom hasSet occurs ruleOf headAt constantAt opNumber aField bField argument opOf equationAt usesA usesB usesC misformed partOf frames misnamed refusalAt judgeTable judgeNodes judgeTree size childAt owner exchanged part formerly keep firstOf upFrom has wider widened reaching reachings labelIn labelsBy labelsOf circleOf settled ready takeable ranking rankedBy ranked loneOf leastFrom declared placeOf ruleAt opAt named argsAt evalAt beyond shut emptyRecord opened filled loaded belowPoint arranged replaced short loadRefusal passes replaceRefusal stepRefusal sownOf dueOf stores survives changedOf roundNumber fromOf toOf closedOf roundRecord roundMade doneMade dueFrom stepOf loadCall replaceCall stepCall dumped isHex digitValue digitsAt numAt hexOf hexDigits lineAt lineText dumpOf headerOf symbolOf productionOf equationOf nodeOf loadOf replaceOf kindOf frameOf frameAt seekFrom nextOf refusalOf wordOf constantOf wordsAfter takenAt roundText doneText setText dumpText refusalText tableFrom readTable nodesFrom stepsTold dumpTold commandsFrom ownMemory session textA printedA
+unfolding ones valueOf argumentsOf first row someBelow symbolCount productionCount synthesized inherited leftOf childCount childOf childrenFrom hasSet occurs ruleOf headAt constantAt opNumber aField bField argument opOf equationAt usesA usesB usesC misformed partOf frames misnamed refusalAt judgeTable judgeNodes judgeTree size childAt owner exchanged part formerly keep firstOf upFrom has wider widened reaching reachings labelIn labelsBy labelsOf circleOf settled ready takeable ranking rankedBy ranked loneOf leastFrom declared placeOf ruleAt opAt named argsAt evalAt beyond shut emptyRecord opened filled loaded belowPoint arranged replaced short loadRefusal passes replaceRefusal stepRefusal sownOf dueOf stores survives changedOf roundNumber fromOf toOf closedOf roundRecord roundMade doneMade dueFrom stepOf loadCall replaceCall stepCall dumped isHex digitValue digitsAt numAt hexOf hexDigits lineAt lineText dumpOf headerOf symbolOf productionOf equationOf nodeOf loadOf replaceOf kindOf frameOf frameAt seekFrom nextOf refusalOf wordOf constantOf wordsAfter takenAt roundText doneText setText dumpText refusalText readOn readingAt nodesAt stepsTold dumpTold commandsFrom ownMemory session textA printedA
 session-a = refl
 
 pub session-refused : SessionRefused
-unfolding ones valueOf argumentsOf first row someBelow symbolCount productionCount synthesized inherited leftOf childCount childOf childrenFrom hasSet occurs ruleOf headAt constantAt opNumber aField bField argument opOf equationAt usesA usesB usesC misformed partOf frames misnamed refusalAt judgeTable judgeNodes judgeTree size childAt owner exchanged part formerly keep firstOf upFrom has wider widened reaching reachings labelIn labelsBy labelsOf circleOf settled ready takeable ranking rankedBy ranked loneOf leastFrom declared placeOf ruleAt opAt named argsAt evalAt beyond shut emptyRecord opened filled loaded belowPoint arranged replaced short loadRefusal passes replaceRefusal stepRefusal sownOf dueOf stores survives changedOf roundNumber fromOf toOf closedOf roundRecord roundMade doneMade dueFrom stepOf loadCall replaceCall stepCall dumped isHex digitValue digitsAt numAt hexOf hexDigits lineAt lineText dumpOf headerOf symbolOf productionOf equationOf nodeOf loadOf replaceOf kindOf frameOf frameAt seekFrom nextOf refusalOf wordOf constantOf wordsAfter takenAt roundText doneText setText dumpText refusalText tableFrom readTable nodesFrom stepsTold dumpTold commandsFrom ownMemory session refusedText refusedPrinted
+unfolding ones valueOf argumentsOf first row someBelow symbolCount productionCount synthesized inherited leftOf childCount childOf childrenFrom hasSet occurs ruleOf headAt constantAt opNumber aField bField argument opOf equationAt usesA usesB usesC misformed partOf frames misnamed refusalAt judgeTable judgeNodes judgeTree size childAt owner exchanged part formerly keep firstOf upFrom has wider widened reaching reachings labelIn labelsBy labelsOf circleOf settled ready takeable ranking rankedBy ranked loneOf leastFrom declared placeOf ruleAt opAt named argsAt evalAt beyond shut emptyRecord opened filled loaded belowPoint arranged replaced short loadRefusal passes replaceRefusal stepRefusal sownOf dueOf stores survives changedOf roundNumber fromOf toOf closedOf roundRecord roundMade doneMade dueFrom stepOf loadCall replaceCall stepCall dumped isHex digitValue digitsAt numAt hexOf hexDigits lineAt lineText dumpOf headerOf symbolOf productionOf equationOf nodeOf loadOf replaceOf kindOf frameOf frameAt seekFrom nextOf refusalOf wordOf constantOf wordsAfter takenAt roundText doneText setText dumpText refusalText readOn readingAt nodesAt stepsTold dumpTold commandsFrom ownMemory session refusedText refusedPrinted
 session-refused = refl
 
 pub session-empty : SessionEmpty
-unfolding isHex digitsAt hexOf hexDigits lineAt lineText frameAt wordsAfter takenAt refusalText tableFrom readTable session
+unfolding isHex digitsAt hexOf hexDigits lineAt lineText frameAt wordsAfter takenAt refusalText readOn readingAt session
 session-empty = refl
