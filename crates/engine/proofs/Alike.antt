@@ -1,5 +1,5 @@
 -- A step and a run look at the members of circles alone: over two systems that agree on them they come to the same. Assumes nothing.
-use mathlib.Core.Path.{_≡_, refl, ap, sym, _∙_}
+use mathlib.Core.Path.{_≡_, refl, ap, _∙_}
 use mathlib.Core.Bool.{Bool, true, cond, not, _&&_, _||_}
 use mathlib.Core.List.{List, [], _∷_}
 use Prim.Native.Nat.{ℕ, zero, suc, _-_, _<_}
@@ -10,13 +10,13 @@ use Rattle.circles.specs.Ranked.{member, anyOf, allOf, keep, upFrom, loneOf}
 use Rattle.climb.specs.System.{Assignment, System, graphOf}
 use Rattle.climb.specs.Climb.{leastFrom}
 use Rattle.climb.specs.Circuit.{circleAt, dueOf}
-use Rattle.climb.specs.Memory.{at}
+use Rattle.climb.specs.Memory.{at, emptyOn}
 use Rattle.circles.proofs.Lists.{or-two}
 use Rattle.wire.specs.ArrayLaws.{Alike}
 use Rattle.wire.proofs.Holding.{round-alike}
 use Rattle.update.specs.declared.Record.{Record}
-use Rattle.update.specs.Records.{isLoad}
-use Rattle.update.specs.Steps.{sownOf, survives, changedOf, roundNumber, fromOf, toOf, closedOf, roundRecord, round, Made, roundMade, doneMade, dueFrom, stepOf, Ran, onward, runOf}
+use Rattle.update.specs.Records.{isLoad, shut}
+use Rattle.update.specs.Steps.{sownOf, survives, changedOf, roundNumber, fromOf, toOf, closedOf, roundRecord, round, done as finished, roundMade, doneMade, dueFrom, stepOf, onward, runOf}
 
 any-alike : (C : List ℕ) (p q : ℕ → Bool) → ((x : ℕ) → member C x ≡ true → p x ≡ q x) → anyOf p C ≡ anyOf q C
 any-alike [] p q h = refl
@@ -56,7 +56,7 @@ module _ (S S′ : System) (k : Alike S S′) (R : List (List ℕ)) (inside : (i
 
     start-same : fromOf S C n sets ≡ fromOf S′ C n sets
     unfolding fromOf
-    start-same = λ j. cond (eqb n 1 && not (lone-same j)) (Rattle.climb.specs.Memory.emptyOn C sets) sets
+    start-same = λ j. cond (eqb n 1 && not (lone-same j)) (emptyOn C sets) sets
 
     end-same : toOf S C (fromOf S C n sets) ≡ toOf S′ C (fromOf S′ C n sets)
     unfolding toOf C
@@ -75,8 +75,8 @@ module _ (S S′ : System) (k : Alike S S′) (R : List (List ℕ)) (inside : (i
   done-same : (r : Record) (before sets : List ℕ) → doneMade S r before sets ≡ doneMade S′ r before sets
   unfolding doneMade changedOf
   done-same r before sets = λ j. record {
-    outcome = Rattle.update.specs.Steps.done (r .circles) (r .evaluations) (cond (isLoad (r .«open»)) 0 (length (keep (λ x. k .declared x j && survives r x && not (eqb (at sets x) (at before x))) (upFrom 0 (k .size j)))));
-    next = Rattle.update.specs.Records.shut (r .held) (r .nodes);
+    outcome = finished (r .circles) (r .evaluations) (cond (isLoad (r .«open»)) 0 (length (keep (λ x. k .declared x j && survives r x && not (eqb (at sets x) (at before x))) (upFrom 0 (k .size j)))));
+    next = shut (r .held) (r .nodes);
     sets = sets;
   }
 

@@ -1,5 +1,5 @@
 -- What a call leaves, from the refusal that its code found. Assumes nothing.
-use mathlib.Core.Path.{_≡_, refl, ap, sym, _∙_}
+use mathlib.Core.Path.{_≡_, refl, _∙_}
 use mathlib.Core.List.{List}
 use Prim.Native.Nat.{ℕ, zero, suc, _+_, _-_, _<_}
 use native.Mathlib.Omega.{arith}
@@ -17,7 +17,6 @@ use Rattle.update.specs.Refusals.{loadRefusal, replaceRefusal, readRefusal}
 use Rattle.update.specs.Calls.{Said, refused, said, Left, unless, Opened, is-open, loadCall, replaceCall, unlessRead, readCall}
 use Rattle.climb.specs.Memory.{at}
 use Rattle.engine.specs.Lent.{begun}
-use Rattle.engine.specs.declared.Begun.{Begun}
 
 left-refused : {A : Type 0} (n : ℕ) (r : Record) (m : Memory) (l : Left (Said A)) → 0 < n → record { answer = refused n; next = r; memory = m } ≡ unless n r m l
 left-refused zero r m l h = absurd (omega arith)

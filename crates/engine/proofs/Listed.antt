@@ -1,6 +1,6 @@
 -- The ranked circles of a graph: none is empty, each has its least instance first, and a slot is a member exactly where that is its label. Assumes nothing.
 use mathlib.Core.Path.{_≡_, refl, ap, sym, _∙_, subst}
-use mathlib.Core.Bool.{Bool, true, false, false≢true}
+use mathlib.Core.Bool.{true, false, false≢true}
 use mathlib.Core.Logic.{⊎-elim}
 use mathlib.Core.List.{List, [], _∷_, map}
 use Prim.Native.Nat.{ℕ, zero, suc, _+_, _≤_, _<_}
@@ -9,10 +9,10 @@ use native.Mathlib.Omega.{arith}
 use borrow.Author.Tests.{eq-eqb, eqb-true}
 use lib.Dec.{eqb}
 use lib.ListN.{length, getD, length-map, length-append}
-use Rattle.circles.specs.Graph.{Graph, Closed, Together, LeastOf, Path⁺, here}
+use Rattle.circles.specs.Graph.{Graph, _∈_, Closed, LeastOf, here}
 use Rattle.circles.specs.Ranked.{member, labelsOf, labelAt, circleOf, ranked}
 use Rattle.circles.specs.Arrays.{joined}
-use Rattle.circles.specs.Laws.{Rising, end, step, sumTo, circleAt, declaredCount, Ordered, Greedy, stop, take, circlesOf}
+use Rattle.circles.specs.Laws.{Rising, step, sumTo, circleAt, declaredCount, Greedy, stop, take, circlesOf}
 use Rattle.circles.proofs.Lists.{bool-same, of-member, or-parts}
 use Rattle.circles.proofs.Listing.{of-circle, labelled}
 use Rattle.circles.proofs.Sequence.{circles, taken, ordered}
@@ -66,7 +66,7 @@ module _ (G : Graph) (C : Closed G) (few : G .size ≤ 65535) where
       let b : i < length ls = omega arith in
       let w = greedy-at (taken G C few .greedy) i b in
       let l = getD ls i 0 in
-      (l, of-member (subst (λ (c : List ℕ). Rattle.circles.specs.Graph._∈_ l c) (sym (ap (λ (q : List (List ℕ)). circleAt q i) e ∙ map-at (circleOf G (labelsOf G)) ls i b)) (of-circle G C l l (C .bound l (w .0)) (w .1))))
+      (l, of-member (subst (λ (c : List ℕ). l ∈ c) (sym (ap (λ (q : List (List ℕ)). circleAt q i) e ∙ map-at (circleOf G (labelsOf G)) ls i b)) (of-circle G C l l (C .bound l (w .0)) (w .1))))
 
   -- circle i, its first, and its labels
   module _ (i : ℕ) (h : i < length (ranked G)) where

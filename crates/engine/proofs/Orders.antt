@@ -22,7 +22,6 @@ use Rattle.update.specs.declared.Record.{Record}
 use Rattle.update.specs.Records.{isOpen, beyond}
 use Rattle.update.specs.Memories.{Memory, nodesOf}
 use Rattle.update.specs.Refusals.{firstRefusal, when, short, heldRefusal, loadRefusal, passes, replaceRefusal, stepRefusal, readRefusal}
-use Rattle.update.specs.Within.{Roomy, WithinLimits}
 use Rattle.update.proofs.Within.{short-means, beyond-means}
 use Rattle.wire.specs.Instances.{declared}
 use Rattle.engine.specs.Order.{groundNumbers, loadNumbers, heldNumbers, lookNumbers, pointNumbers, partNumbers, goingNumbers, Grounded, Holding, Going}

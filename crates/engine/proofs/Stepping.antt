@@ -1,8 +1,8 @@
 -- What step and run leave, from what the code over the arrays says. Assumes nothing.
-use mathlib.Core.Path.{_≡_, refl, ap, sym, _∙_, subst}
-use mathlib.Core.Bool.{Bool, true, false, _&&_, not, false≢true, true≢false}
+use mathlib.Core.Path.{_≡_, refl, ap, sym, _∙_}
+use mathlib.Core.Bool.{Bool, true, false, _&&_, not, false≢true}
 use mathlib.Core.List.{List, []}
-use Prim.Native.Nat.{ℕ, _*_, _≤_, _<_}
+use Prim.Native.Nat.{ℕ, _<_}
 use native.Mathlib.Decide.{decLt}
 use native.Mathlib.Omega.{arith}
 use borrow.Author.Tests.{ltb-true}
@@ -10,8 +10,7 @@ use lib.Dec.{ltb, eqb}
 use lib.ListN.{length, getD, List·getD-eq-default}
 use Rattle.refusal.specs.Numbers.{numberOf}
 use Rattle.refusal.specs.declared.Refusal.{Refusal}
-use Rattle.circles.specs.Arrays.{graphOf}
-use Rattle.circles.specs.Ranked.{member, ranked}
+use Rattle.circles.specs.Ranked.{member}
 use Rattle.climb.specs.System.{System}
 use Rattle.climb.specs.Circuit.{circleAt}
 use Rattle.climb.specs.Wired.{wired}
@@ -31,11 +30,8 @@ use Rattle.engine.specs.Order.{Going}
 use Rattle.engine.specs.Prepared.{Holds}
 use Rattle.engine.proofs.Orders.{step-none}
 use Rattle.engine.proofs.Answers.{by, left-carried}
+use Rattle.engine.proofs.Parts.{and-first}
 use Rattle.engine.proofs.Alike.{step-same, run-same}
-
-and-first : (a b : Bool) → (a && b) ≡ true → a ≡ true
-and-first true b e = refl
-and-first false b e = absurd (false≢true e)
 
 module _ (t : List ℕ) (m : Memory) (r : Record) where
   pub step-refused : (q : Refusal) → numberOf q ≡ stepRefusal t m r → stepped (StepRefused q) r m ≡ stepCall t m r

@@ -1,4 +1,5 @@
 -- The four buffers that a call is lent as one memory, and what a call leaves as one value: the contracts equate it with the call's definition. Assumes nothing.
+use mathlib.Core.Path.{_≡_}
 use mathlib.Core.List.{List}
 use Prim.Native.Nat.{ℕ}
 use Rattle.refusal.specs.Numbers.{numberOf}
@@ -6,7 +7,7 @@ use Rattle.refusal.specs.declared.Verdict.{Verdict}
 use Rattle.refusal.specs.declared.Verdict.the-variants.{Sound, Refused}
 use Rattle.update.specs.Memories.{Memory}
 use Rattle.update.specs.Steps.{Outcome}
-use Rattle.update.specs.Calls.{Said, refused, said, answerSays, Ranged, runSays, Left, Opened, is-open}
+use Rattle.update.specs.Calls.{Said, refused, said, answerSays, Ranged, runSays, Left, Opened, is-open, runCall}
 use Rattle.update.specs.declared.Record.{Record}
 use Rattle.update.specs.declared.Answer.{Answer}
 use Rattle.update.specs.declared.Run.{Run}
@@ -32,3 +33,7 @@ stepped a r m = record { answer = answerSays a; next = r; memory = m }
 -- a run's
 abbrev pub advanced : Run → Record → Memory → Left (Said Ranged)
 advanced a r m = record { answer = runSays a; next = r; memory = m }
+
+-- a run, with the record by value or lent: what it answers, the record and the sets that it leaves; it only reads the other buffers
+pub record RunLeaves (t held owns sets before : List ℕ) (r : Record) (budget : ℕ) (answer : Run) (next : Record) (sets′ : List ℕ) : Type 0 where
+  pub left : advanced answer next (lent held owns sets′ before) ≡ runCall t (lent held owns sets before) r budget

@@ -5,7 +5,6 @@ use Prim.Native.Nat.{ℕ, _*_, _≤_}
 use lib.ListN.{length}
 use Rattle.circles.specs.Arrays.{graphOf, Laid}
 use Rattle.climb.specs.System as system
-use Rattle.climb.specs.System.{System}
 use Rattle.climb.specs.Wired.{wired, Wiring}
 use Rattle.circles.specs.Ranked.{ranked}
 use Rattle.wire.specs.Instances.{system as systemOf}

@@ -13,6 +13,7 @@ pub use reading::read;
 use refusal::Verdict;
 use update::Record;
 pub use working::prepare;
+pub use working::run;
 pub use working::run_record;
 pub use working::step;
 

@@ -13,8 +13,8 @@ use update::Run;
 use wire::wire_tree;
 ghost use mathlib.Core.Path.{_≡_};
 ghost use Rattle.wire.specs.Turns.{Held};
-ghost use Rattle.update.specs.Calls.{stepCall, runCall};
-ghost use Rattle.engine.specs.Lent.{lent, stepped, advanced};
+ghost use Rattle.update.specs.Calls.{stepCall};
+ghost use Rattle.engine.specs.Lent.{lent, stepped, RunLeaves};
 ghost use Rattle.engine.specs.Order.{Going};
 ghost use Rattle.engine.specs.Prepared.{Scratch, Prepared};
 
@@ -125,7 +125,7 @@ fn run_going<'a>(
     budget: u64,
 ) -> Advanced
     requires { ⌜ Going (now table) (lent (now held) (now «held_owns») (now sets) (now before)) «record» ⌝ }
-    ensures { λ r. ⌜ advanced (r .answer) (r .record) (lent (now (held .entry)) (now («held_owns» .entry)) (now (sets .exit)) (now (before .entry))) ≡ runCall (now (table .entry)) (lent (now (held .entry)) (now («held_owns» .entry)) (now (sets .entry)) (now (before .entry))) «record» budget ⌝ }
+    ensures { λ r. ⌜ RunLeaves (now (table .entry)) (now (held .entry)) (now («held_owns» .entry)) (now (sets .entry)) (now (before .entry)) «record» budget (r .answer) (r .record) (now (sets .exit)) ⌝ }
 {
     let nodes = record.nodes;
     let mut a = [0u16; 4096];
@@ -179,7 +179,7 @@ pub fn run_record<'a>(
     before: &'a [u64],
     budget: u64,
 ) -> Advanced
-    ensures { λ r. ⌜ advanced (r .answer) (r .record) (lent (now (held .entry)) (now («held_owns» .entry)) (now (sets .exit)) (now (before .entry))) ≡ runCall (now (table .entry)) (lent (now (held .entry)) (now («held_owns» .entry)) (now (sets .entry)) (now (before .entry))) «record» budget ⌝ }
+    ensures { λ r. ⌜ RunLeaves (now (table .entry)) (now (held .entry)) (now («held_owns» .entry)) (now (sets .entry)) (now (before .entry)) «record» budget (r .answer) (r .record) (now (sets .exit)) ⌝ }
 {
     match judge_step(table, record, held, held_owns, &*sets, before) {
         Verdict::Sound => run_going(table, record, held, held_owns, sets, before, budget),
@@ -188,4 +188,22 @@ pub fn run_record<'a>(
             record: record,
         },
     }
+}
+
+// "The update record is lent by the caller, who finds it altered after the run."
+pub fn run<'a>(
+    record: &mut Record,
+    table: &'a [u64; 2657],
+    held: &'a [u8],
+    held_owns: &'a [u64],
+    sets: &mut [u64],
+    before: &'a [u64],
+    budget: u64,
+) -> Run
+    ensures { λ a. ⌜ RunLeaves (now (table .entry)) (now (held .entry)) (now («held_owns» .entry)) (now (sets .entry)) (now (before .entry)) (now («record» .entry)) budget a (now («record» .exit)) (now (sets .exit)) ⌝ }
+{
+    let r = *record;
+    let d = run_record(table, r, held, held_owns, sets, before, budget);
+    *record = d.record;
+    d.answer
 }

@@ -1,6 +1,5 @@
 -- 16, then the nodes. Assumes nothing.
 use mathlib.Core.Path.{sym, _∙_}
-use native.Mathlib.Omega.{arith}
 use lib.ListN.{take}
 use lib.Seq.{length-take-le}
 use Rattle.table.specs.First.{first}

@@ -1,5 +1,5 @@
 -- 8, the lengths, then the new part's nodes, whose root is to have the point's symbol. Assumes nothing.
-use mathlib.Core.Path.{_≡_, ap, sym, _∙_, subst}
+use mathlib.Core.Path.{ap, sym, _∙_, subst}
 use native.Mathlib.Omega.{arith}
 use Prim.Native.Nat.{_<_}
 use lib.ListN.{take}

@@ -1,5 +1,5 @@
 -- The node is in the tree, and its symbol has the set. Assumes nothing.
-use mathlib.Core.Path.{_≡_, ap, sym, _∙_, subst}
+use mathlib.Core.Path.{ap, sym, _∙_, subst}
 use native.Mathlib.Omega.{arith}
 use Prim.Native.Nat.{_<_, _/_, _%_, zero-le}
 use Rattle.table.specs.Words.{productionCount, symbolCount, leftOf, hasSet}

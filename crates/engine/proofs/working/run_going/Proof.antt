@@ -1,6 +1,6 @@
 -- The arrays are made once; what is made over them is made over the system of the table and the tree. Assumes nothing.
-use mathlib.Core.Path.{_≡_, refl, ap, sym, _∙_}
-use mathlib.Core.List.{List, [], _∷_}
+use mathlib.Core.Path.{_≡_, refl, ap, sym}
+use mathlib.Core.List.{List}
 use Prim.Native.Nat.{ℕ, _*_, _≤_}
 use native.Mathlib.Omega.{arith}
 use lib.ListN.{length, take}
@@ -76,4 +76,4 @@ run-going-spec =
     (λ c.
     let s = c .before .before .before .before .before .before .before .before .before .before .before .before .before .before .before .before .before .before .before .before .before .before .before .before .before .before .before .before .before .before .before .before in
     let h = prepared-holds (s .args .table .now) (tree s) (owns s) _ _ _ _ _ _ _ _ _ _ _ _ _ _ _ (8 * nodes s) (sound s) (owned s) (slots s) (c .before .before .before .before .before .before .before .before .before .before .before .before .before .before .before .before .before .before .before .prepare .ensures) in
-    run-carried (s .args .table .now) (memory s) (s .args .«record») (s .pre) (8 * nodes s) _ _ _ _ _ _ _ _ h (s .args .budget) _ _ _ (c .before .before .before .run-in .ensures)))
+    record { left = run-carried (s .args .table .now) (memory s) (s .args .«record») (s .pre) (8 * nodes s) _ _ _ _ _ _ _ _ h (s .args .budget) _ _ _ (c .before .before .before .run-in .ensures) }))

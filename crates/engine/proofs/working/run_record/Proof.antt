@@ -22,4 +22,4 @@ run-record-spec =
     (λ c. search needs)
     (λ c. search needs)
     (λ c. search needs)
-    (λ c. let s = c .before .before .before .before .before .before .before .before .before in run-refused (s .args .table .now) (memory s) (s .args .«record») (s .args .budget) (c .before .r .given .0 .0) (refused-number (c .before .r .given .1) (c .before .before .before .judge-step .ensures))))
+    (λ c. let s = c .before .before .before .before .before .before .before .before .before in record { left = run-refused (s .args .table .now) (memory s) (s .args .«record») (s .args .budget) (c .before .r .given .0 .0) (refused-number (c .before .r .given .1) (c .before .before .before .judge-step .ensures)) }))
