@@ -1,0 +1,282 @@
+// One whole line, by what is waited for.
+use crate::Mode;
+use crate::Order;
+use crate::Told;
+use crate::opening::open_update;
+use crate::telling::tell_sets;
+use frames::Expected;
+use frames::Frame;
+use frames::Taken;
+use frames::put_refusal;
+use frames::take_frame;
+use refusal::Refusal;
+use update::Record;
+
+// "After 1 to 5, 13 or 14 it stops".
+fn stop(out: &mut [u8], printed: usize, record: Record, refusal: Refusal, line: u32) -> Told {
+    Told {
+        mode: Mode::Stopped,
+        record: record,
+        printed: put_refusal(out, printed, refusal, line),
+    }
+}
+
+// A frame in a place where it can't stand: its own refusal, else 14.
+fn stop_at(out: &mut [u8], printed: usize, record: Record, frame: Frame, line: u32) -> Told {
+    let Frame::Refused { refusal, line: own } = frame else {
+        return stop(out, printed, record, Refusal::Frame, line);
+    };
+    stop(out, printed, record, refusal, own)
+}
+
+// What is waited for behind a frame of the table.
+fn mode_of(expected: Expected) -> Mode {
+    if let Expected::Ended = expected {
+        return Mode::Command;
+    }
+    Mode::Table(expected)
+}
+
+// A frame of the table.
+fn hear_table(
+    table: &mut [u64; 2657],
+    expected: Expected,
+    frame: Frame,
+    line: u32,
+    record: Record,
+    out: &mut [u8],
+    printed: usize,
+) -> Told {
+    match take_frame(table, expected, frame, line) {
+        Taken::Next(next) => Told {
+            mode: mode_of(next),
+            record: record,
+            printed: printed,
+        },
+        Taken::Stopped { refusal, line: bad } => stop(out, printed, record, refusal, bad),
+    }
+}
+
+// The first line of a load or a replacement: its nodes are waited for, if it has any.
+fn hear_order(
+    table: &[u64; 2657],
+    record: Record,
+    order: Order,
+    count: usize,
+    line: u32,
+    parts: &[u8],
+    part_owns: &[u64],
+    held: &mut [u8],
+    held_owns: &mut [u64],
+    sets: &mut [u64],
+    before: &mut [u64],
+    out: &mut [u8],
+    printed: usize,
+) -> Told {
+    if count == 0 {
+        return open_update(
+            table,
+            record,
+            order,
+            count,
+            line,
+            parts,
+            part_owns,
+            held,
+            held_owns,
+            sets,
+            before,
+            out,
+            printed,
+        );
+    }
+    Told {
+        mode: Mode::Nodes {
+            order: order,
+            count: count,
+            taken: 0,
+            line: line,
+        },
+        record: record,
+        printed: printed,
+    }
+}
+
+// A command's first line.
+fn hear_command(
+    table: &[u64; 2657],
+    record: Record,
+    frame: Frame,
+    line: u32,
+    parts: &[u8],
+    part_owns: &[u64],
+    held: &mut [u8],
+    held_owns: &mut [u64],
+    sets: &mut [u64],
+    before: &mut [u64],
+    out: &mut [u8],
+    printed: usize,
+) -> Told {
+    match frame {
+        Frame::Load { count } => hear_order(
+            table,
+            record,
+            Order::Load,
+            count as usize,
+            line,
+            parts,
+            part_owns,
+            held,
+            held_owns,
+            sets,
+            before,
+            out,
+            printed,
+        ),
+        Frame::Replace { point, count } => hear_order(
+            table,
+            record,
+            Order::Replace(point as usize),
+            count as usize,
+            line,
+            parts,
+            part_owns,
+            held,
+            held_owns,
+            sets,
+            before,
+            out,
+            printed,
+        ),
+        Frame::Dump => tell_sets(table, record, &*held, &*sets, line, out, printed),
+        _ => stop_at(out, printed, record, frame, line),
+    }
+}
+
+// A node is kept while a tree may have so many.
+fn keep_node(parts: &mut [u8], part_owns: &mut [u64], taken: usize, production: u8, own: u64) {
+    if taken < 513 {
+        parts[taken] = production;
+        part_owns[taken] = own;
+    }
+}
+
+// A node's line; behind the last one the command is carried out.
+fn hear_node(
+    table: &[u64; 2657],
+    record: Record,
+    order: Order,
+    count: usize,
+    taken: usize,
+    command: u32,
+    frame: Frame,
+    line: u32,
+    parts: &mut [u8],
+    part_owns: &mut [u64],
+    held: &mut [u8],
+    held_owns: &mut [u64],
+    sets: &mut [u64],
+    before: &mut [u64],
+    out: &mut [u8],
+    printed: usize,
+) -> Told {
+    let Frame::Node { production, own } = frame else {
+        return stop_at(out, printed, record, frame, line);
+    };
+    keep_node(parts, part_owns, taken, production, own);
+    if taken + 1 < count {
+        return Told {
+            mode: Mode::Nodes {
+                order: order,
+                count: count,
+                taken: taken + 1,
+                line: command,
+            },
+            record: record,
+            printed: printed,
+        };
+    }
+    open_update(
+        table,
+        record,
+        order,
+        count,
+        command,
+        &*parts,
+        &*part_owns,
+        held,
+        held_owns,
+        sets,
+        before,
+        out,
+        printed,
+    )
+}
+
+// A line's frame, by what is waited for.
+pub fn hear(
+    table: &mut [u64; 2657],
+    mode: Mode,
+    record: Record,
+    line: u32,
+    frame: Frame,
+    parts: &mut [u8],
+    part_owns: &mut [u64],
+    held: &mut [u8],
+    held_owns: &mut [u64],
+    sets: &mut [u64],
+    before: &mut [u64],
+    out: &mut [u8],
+    printed: usize,
+) -> Told {
+    match mode {
+        Mode::Table(expected) => hear_table(table, expected, frame, line, record, out, printed),
+        Mode::Command => hear_command(
+            &*table,
+            record,
+            frame,
+            line,
+            &*parts,
+            &*part_owns,
+            held,
+            held_owns,
+            sets,
+            before,
+            out,
+            printed,
+        ),
+        Mode::Nodes {
+            order,
+            count,
+            taken,
+            line: command,
+        } => hear_node(
+            &*table,
+            record,
+            order,
+            count,
+            taken,
+            command,
+            frame,
+            line,
+            parts,
+            part_owns,
+            held,
+            held_owns,
+            sets,
+            before,
+            out,
+            printed,
+        ),
+        Mode::Working { turns } => Told {
+            mode: Mode::Working { turns: turns },
+            record: record,
+            printed: printed,
+        },
+        Mode::Stopped => Told {
+            mode: Mode::Stopped,
+            record: record,
+            printed: printed,
+        },
+    }
+}

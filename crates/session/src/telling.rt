@@ -1,0 +1,221 @@
+// What an update's rounds and a dump print.
+use crate::Mode;
+use crate::Told;
+use engine::prepare;
+use frames::put_done;
+use frames::put_refusal;
+use frames::put_round;
+use frames::put_set;
+use refusal::Refusal;
+use steps::step_in;
+use table::has_set;
+use table::left_of;
+use update::Answer;
+use update::Open;
+use update::Record;
+
+fn bit(closed: bool) -> u8 {
+    if closed { 1 } else { 0 }
+}
+
+// "per round `11` least instance (2), round (3), circle size (2), closed 0 or 1 (1); at done `12` circles (2), evaluations (4), changed (2)".
+fn put_answer(out: &mut [u8], printed: usize, answer: Answer) -> usize {
+    match answer {
+        Answer::Round {
+            least,
+            round,
+            size,
+            closed,
+        } => put_round(
+            out,
+            printed,
+            least as u16,
+            round as u32,
+            size as u16,
+            bit(closed),
+        ),
+        Answer::Done {
+            circles,
+            evaluations,
+            changed,
+        } => put_done(
+            out,
+            printed,
+            circles as u16,
+            evaluations as u32,
+            changed as u16,
+        ),
+        Answer::Refused(r) => printed,
+    }
+}
+
+// Steps over the arrays of the wiring and of the circles, until done, until the turns are used up or until there is no room for a line.
+fn tell_steps<'a>(
+    table: &'a [u64; 2657],
+    owns: &'a [u64],
+    a: &'a [u16],
+    b: &'a [u16],
+    left: &'a [u16],
+    rule: &'a [u16],
+    label: &'a [u16],
+    members: &'a [u16],
+    ends: &'a [u16],
+    count: usize,
+    n: usize,
+    before: &'a [u64],
+    turns: u64,
+    record: Record,
+    sets: &mut [u64],
+    values: &mut [u64],
+    out: &mut [u8],
+    printed: usize,
+) -> Told {
+    let mut work = record;
+    let mut at = printed;
+    let mut still = turns;
+    while 0 < still {
+        if out.len() - at < 19 {
+            return Told {
+                mode: Mode::Working { turns: still },
+                record: work,
+                printed: at,
+            };
+        }
+        let d = step_in(
+            table,
+            owns,
+            a,
+            b,
+            left,
+            rule,
+            label,
+            members,
+            ends,
+            count,
+            n,
+            before,
+            work,
+            sets,
+            values,
+        );
+        let answer = d.answer;
+        work = d.record;
+        at = put_answer(out, at, answer);
+        still -= 1;
+        if let Answer::Done {
+            circles,
+            evaluations,
+            changed,
+        } = answer {
+            return Told {
+                mode: Mode::Command,
+                record: work,
+                printed: at,
+            };
+        }
+    }
+    Told {
+        mode: Mode::Command,
+        record: work,
+        printed: at,
+    }
+}
+
+// The rounds of the open update, as many as there is room for; the arrays of the wiring and of the circles are made anew in the lent ones.
+pub fn tell_rounds<'a>(
+    table: &'a [u64; 2657],
+    record: Record,
+    turns: u64,
+    held: &'a [u8],
+    held_owns: &'a [u64],
+    sets: &mut [u64],
+    before: &'a [u64],
+    a: &mut [u16; 4096],
+    b: &mut [u16; 4096],
+    left: &mut [u16],
+    rule: &mut [u16],
+    label: &mut [u16],
+    members: &mut [u16],
+    ends: &mut [u16],
+    values: &mut [u64],
+    out: &mut [u8],
+    printed: usize,
+) -> Told {
+    let nodes = record.nodes;
+    let tree = &held[..nodes];
+    let count = prepare(table, tree, a, b, left, rule, label, members, ends);
+    let owns = &held_owns[..nodes];
+    tell_steps(
+        table,
+        owns,
+        &*a,
+        &*b,
+        &*left,
+        &*rule,
+        &*label,
+        &*members,
+        &*ends,
+        count,
+        8 * nodes,
+        before,
+        turns,
+        record,
+        sets,
+        values,
+        out,
+        printed,
+    )
+}
+
+// The sets of a dump (stand-in until the dump crate is there).
+fn put_sets(
+    table: &[u64; 2657],
+    held: &[u8],
+    nodes: usize,
+    sets: &[u64],
+    out: &mut [u8],
+    printed: usize,
+) -> usize {
+    let mut at = printed;
+    let mut x: usize = 0;
+    while x < 8 * nodes {
+        if has_set(table, left_of(table, held[x / 8] as usize), x % 8) {
+            at = put_set(out, at, x as u16, sets[x]);
+        }
+        x += 1;
+    }
+    at
+}
+
+// Why a dump is refused, over a judged table and tree: 10, then 16.
+fn is_open(open: Open) -> bool {
+    match open {
+        Open::Nothing => false,
+        Open::Load => true,
+        Open::Replacement => true,
+    }
+}
+
+// "for a dump `13` instance (2), value (8), rising".
+pub fn tell_sets(
+    table: &[u64; 2657],
+    record: Record,
+    held: &[u8],
+    sets: &[u64],
+    line: u32,
+    out: &mut [u8],
+    printed: usize,
+) -> Told {
+    let at = if is_open(record.open) {
+        put_refusal(out, printed, Refusal::Busy, line)
+    } else if !record.held {
+        put_refusal(out, printed, Refusal::Absent, line)
+    } else {
+        put_sets(table, held, record.nodes, sets, out, printed)
+    };
+    Told {
+        mode: Mode::Command,
+        record: record,
+        printed: at,
+    }
+}
