@@ -2,8 +2,8 @@
 use crate::Mode;
 use crate::Order;
 use crate::Told;
+use crate::dumping::tell_sets;
 use crate::opening::open_update;
-use crate::telling::tell_sets;
 use frames::Expected;
 use frames::Frame;
 use frames::Taken;
@@ -50,7 +50,7 @@ fn hear_table(
     match take_frame(table, expected, frame, line) {
         Taken::Next(next) => Told {
             mode: mode_of(next),
-            record: record,
+            record: Record::empty(),
             printed: printed,
         },
         Taken::Stopped { refusal, line: bad } => stop(out, printed, record, refusal, bad),
