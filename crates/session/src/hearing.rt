@@ -11,6 +11,15 @@ use frames::put_refusal;
 use frames::take_frame;
 use refusal::Refusal;
 use update::Record;
+ghost use mathlib.Core.Path.{_≡_};
+ghost use mathlib.Core.Bool.{true};
+ghost use Prim.Native.Nat.{_+_, _≤_, _<_};
+ghost use lib.ListN.{length};
+ghost use Rattle.frames.specs.Read.{Awaits};
+ghost use Rattle.engine.specs.Lent.{lent};
+ghost use Rattle.engine.specs.Order.{Holding};
+ghost use Rattle.session.specs.Owed.{Sound};
+ghost use Rattle.session.specs.Hearing.{hearing, Hears, Spacious};
 
 // "After 1 to 5, 13 or 14 it stops".
 fn stop(out: &mut [u8], printed: usize, record: Record, refusal: Refusal, line: u32) -> Told {
@@ -228,7 +237,11 @@ pub fn hear(
     before: &mut [u64],
     out: &mut [u8],
     printed: usize,
-) -> Told {
+) -> Told
+    requires { ⌜ (length (now table) ≡ 2657) × Sound mode (now table) (lent (now held) (now «held_owns») (now sets) (now before)) «record» ⌝ }
+    requires { ⌜ (513 ≤ length (now parts)) × (513 ≤ length (now «part_owns»)) × Spacious (now out) printed ⌝ }
+    ensures { λ r. ⌜ Hears (hearing mode frame line (now (table .entry)) (now (parts .entry)) (now («part_owns» .entry)) (lent (now (held .entry)) (now («held_owns» .entry)) (now (sets .entry)) (now (before .entry))) «record») r printed (now (out .entry)) (now (out .exit)) (now (table .exit)) (now (parts .exit)) (now («part_owns» .exit)) (lent (now (held .exit)) (now («held_owns» .exit)) (now (sets .exit)) (now (before .exit))) ⌝ }
+{
     match mode {
         Mode::Table(expected) => hear_table(table, expected, frame, line, record, out, printed),
         Mode::Command => hear_command(

@@ -8,12 +8,21 @@ use engine::replace_judged;
 use frames::put_refusal;
 use refusal::Verdict;
 use update::Record;
+ghost use mathlib.Core.Path.{_≡_};
+ghost use Prim.Native.Nat.{_+_, _≤_, min};
+ghost use lib.ListN.{length};
+ghost use Rattle.engine.specs.Lent.{lent, begun};
+ghost use Rattle.engine.specs.Order.{Holding};
+ghost use Rattle.session.specs.Owed.{orderCall};
+ghost use Rattle.session.specs.Hearing.{called, Hears};
 
 // A round makes an evaluation at the least, so that no update takes more steps.
 const TURNS: u64 = 1_073_745_922;
 
 // A command of more nodes than a tree may have is refused whatever they are: as many stand for all of them.
-fn at_most(count: usize) -> usize {
+fn at_most(count: usize) -> usize
+    ensures { λ r. ⌜ r ≡ min count 513 ⌝ }
+{
     if count < 513 { count } else { 513 }
 }
 
@@ -28,7 +37,10 @@ fn call_order(
     held_owns: &mut [u64],
     sets: &mut [u64],
     before: &mut [u64],
-) -> Begun {
+) -> Begun
+    requires { ⌜ Holding (now table) (lent (now held) (now «held_owns») (now sets) (now before)) «record» ⌝ }
+    ensures { λ r. ⌜ begun r (lent (now (held .exit)) (now («held_owns» .exit)) (now (sets .exit)) (now (before .exit))) ≡ orderCall order (now (table .entry)) (lent (now (held .entry)) (now («held_owns» .entry)) (now (sets .entry)) (now (before .entry))) «record» (now (new .entry)) (now («new_owns» .entry)) ⌝ }
+{
     match order {
         Order::Load => load_judged(table, record, new, new_owns, held, held_owns, sets, before),
         Order::Replace(point) => replace_judged(
@@ -60,7 +72,11 @@ pub fn open_update(
     before: &mut [u64],
     out: &mut [u8],
     printed: usize,
-) -> Told {
+) -> Told
+    requires { ⌜ Holding (now table) (lent (now held) (now «held_owns») (now sets) (now before)) «record» ⌝ }
+    requires { ⌜ (513 ≤ length (now parts)) × (513 ≤ length (now «part_owns»)) × (printed + 13 ≤ length (now out)) ⌝ }
+    ensures { λ r. ⌜ Hears (called (now (table .entry)) (now (parts .entry)) (now («part_owns» .entry)) (lent (now (held .entry)) (now («held_owns» .entry)) (now (sets .entry)) (now (before .entry))) «record» order count line) r printed (now (out .entry)) (now (out .exit)) (now (table .entry)) (now (parts .entry)) (now («part_owns» .entry)) (lent (now (held .exit)) (now («held_owns» .exit)) (now (sets .exit)) (now (before .exit))) ⌝ }
+{
     let n = at_most(count);
     let begun = call_order(
         table,
