@@ -7,3 +7,4 @@ pub mod Meaning
 pub mod Stepping
 pub mod Scheduling
 pub mod Running
+pub mod Ready

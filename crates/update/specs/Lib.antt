@@ -8,3 +8,4 @@ pub mod Within
 pub mod Demands
 pub mod Meaning
 pub mod Cases
+pub mod History
