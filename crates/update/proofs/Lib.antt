@@ -8,3 +8,4 @@ pub mod Stepping
 pub mod Scheduling
 pub mod Running
 pub mod Ready
+pub mod Rows
