@@ -7,5 +7,7 @@ pub mod Meaning
 pub mod Stepping
 pub mod Scheduling
 pub mod Running
+pub mod Filled
 pub mod Ready
 pub mod Rows
+pub mod Openings

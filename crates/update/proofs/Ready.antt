@@ -16,7 +16,7 @@ use Rattle.circles.specs.Ranked.{ranked}
 use Rattle.circles.specs.Laws as laws
 use Rattle.circles.specs.Laws.{declaredCount}
 use Rattle.circles.proofs.Sequence.{ordered}
-use Rattle.climb.specs.System.{System, graphOf, Lawful}
+use Rattle.climb.specs.System.{System, graphOf, Lawful, Least}
 use Rattle.climb.specs.Inside.{Small}
 use Rattle.climb.specs.Circuit.{sumTo, circleAt, Ranked, Kept}
 use Rattle.climb.specs.Memory.{at}
@@ -25,7 +25,7 @@ use Rattle.wire.specs.Instances.{declared, system}
 use Rattle.wire.specs.Laws.{Words}
 use Rattle.wire.proofs.Lawful.{tree-lawful, few-instances}
 use Rattle.update.specs.declared.Record.{Record}
-use Rattle.update.specs.Records.{isOpen, beyond}
+use Rattle.update.specs.Records.{isOpen, beyond, shut}
 use Rattle.update.specs.Memories.{Memory}
 use Rattle.update.specs.Within.{Roomy, Fresh}
 use Rattle.update.specs.Steps.{sownOf}
@@ -103,3 +103,15 @@ pub record Ready (t ns owns : List ℕ) (r : Record) (m : Memory) : Type 0 where
 
 pub begins : {t ns owns : List ℕ} {r : Record} {m : Memory} → Ready t ns owns r m → Begins (system t ns owns) (circles t ns owns) r (m .sets)
 begins q = record { lawful = lawful (q .sound); ranked = in-rank (q .sound); fresh = q .fresh; small = q .small; room = omega (arith, q .sound .few, q .roomy .sets) }
+
+-- a finished update: the sets are the least
+pub record Settled (t ns owns : List ℕ) (r : Record) (m : Memory) : Type 0 where
+  pub sound : Sound t ns owns
+  pub closed : r ≡ shut true (length ns)
+  pub roomy : Roomy m
+  pub nodes : take (length ns) (m .productions) ≡ ns
+  pub owns′ : take (length ns) (m .owns) ≡ owns
+  pub behind : (i : ℕ) → length ns ≤ i → (getD (m .productions) i 0 ≡ 0) × (getD (m .owns) i 0 ≡ 0)
+  pub small : Small (at (m .sets))
+  pub empty : (x : ℕ) → declared t ns x ≡ false → at (m .sets) x ≡ 0
+  pub least : Least (system t ns owns) (at (m .sets))

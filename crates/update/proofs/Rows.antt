@@ -65,12 +65,12 @@ never-both : {c e x : ℕ} → paused ≡ finished c e x → ⊥
 never-both h = let z : _≡_ {A = ℕ} 0 1 = cc in absurd (omega arith)
 
 -- what one call leaves fits no second answer, record or memory
-record Parts {A : Type 0} (a a′ : A) (r r′ : Record) (m m′ : Memory) : Type 0 where
-  answer : a ≡ a′
-  next : r ≡ r′
-  memory : m ≡ m′
+pub record Parts {A : Type 0} (a a′ : A) (r r′ : Record) (m m′ : Memory) : Type 0 where
+  pub answer : a ≡ a′
+  pub next : r ≡ r′
+  pub memory : m ≡ m′
 
-parts : {A : Type 0} {a a′ : A} {r r′ : Record} {m m′ : Memory} → leaving a r m ≡ leaving a′ r′ m′ → Parts a a′ r r′ m m′
+pub parts : {A : Type 0} {a a′ : A} {r r′ : Record} {m m′ : Memory} → leaving a r m ≡ leaving a′ r′ m′ → Parts a a′ r r′ m m′
 parts {A} e = record { answer = said-same (ap (λ (l : Left (Said A)). l .answer) e); next = ap (λ (l : Left (Said A)). l .next) e; memory = ap (λ (l : Left (Said A)). l .memory) e }
 
 taken-step : (t : List ℕ) (m : Memory) (r : Record) → stepRefusal t m r ≡ 0
