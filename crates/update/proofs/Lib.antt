@@ -11,3 +11,4 @@ pub mod Filled
 pub mod Ready
 pub mod Rows
 pub mod Openings
+pub mod Histories

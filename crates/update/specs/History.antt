@@ -40,8 +40,9 @@ mutual
   pub data Opening (t : List ℕ) : List ℕ → List ℕ → Record → Memory → Type 0 where
     loads : (m : Memory) (r : Record) (ns owns : List ℕ) {r′ : Record} {m′ : Memory} → Words t → Words owns
         → loadCall t m r ns owns ≡ leaving is-open r′ m′ → Opening t ns owns r′ m′
-    replaces : {ns owns : List ℕ} {r r′ : Record} {m m′ : Memory} → History t ns owns r m → (point : ℕ) (new newOwns : List ℕ) → Words newOwns
-        → replaceCall t m r point new newOwns ≡ leaving is-open r′ m′ → Opening t (nodesAfter t ns new point) (ownsAfter t ns owns newOwns point) r′ m′
+    replaces : {ns owns ns′ owns′ : List ℕ} {r r′ : Record} {m m′ : Memory} → History t ns owns r m → (point : ℕ) (new newOwns : List ℕ) → Words newOwns
+        → replaceCall t m r point new newOwns ≡ leaving is-open r′ m′ → ns′ ≡ nodesAfter t ns new point → owns′ ≡ ownsAfter t ns owns newOwns point
+        → Opening t ns′ owns′ r′ m′
 
   -- and a history that ends with that tree, with record r and memory m
   pub data History (t : List ℕ) : List ℕ → List ℕ → Record → Memory → Type 0 where
