@@ -12,3 +12,4 @@ pub mod Ready
 pub mod Rows
 pub mod Openings
 pub mod Histories
+pub mod Promises

@@ -53,7 +53,7 @@ taken : {A : Type 0} (n : ℕ) {r r′ : Record} {m m′ : Memory} {left : Left 
 taken zero l h = refl
 taken {A} (suc n) l h = absurd (not-refused (ap (λ (k : Left (Said A)). k .answer) (sym (l .refused (omega arith)) ∙ h)))
 
-load-is : (t : List ℕ) (m : Memory) (r : Record) (ns owns : List ℕ) → loadRefusal t m r ns owns ≡ 0
+pub load-is : (t : List ℕ) (m : Memory) (r : Record) (ns owns : List ℕ) → loadRefusal t m r ns owns ≡ 0
     → loadCall t m r ns owns ≡ leaving is-open (opened Load (length ns) 0 (length ns)) (loaded m ns owns)
 unfolding loadCall
 load-is t m r ns owns e = ap (λ (n : ℕ). unless n r m (leaving is-open (opened Load (length ns) 0 (length ns)) (loaded m ns owns))) e

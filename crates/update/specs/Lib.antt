@@ -9,3 +9,4 @@ pub mod Demands
 pub mod Meaning
 pub mod Cases
 pub mod History
+pub mod Promises

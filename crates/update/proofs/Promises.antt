@@ -1,0 +1,95 @@
+-- The three demands over histories. Assumes nothing.
+use mathlib.Core.Path.{_≡_, refl, sym, ap, _∙_, subst}
+use mathlib.Core.Bool.{true, false, true≢false}
+use mathlib.Core.Logic.{⊎-elim}
+use mathlib.Core.List.{List}
+use Prim.Native.Nat.{ℕ, zero, suc, _+_, _≤_, _<_}
+use native.Mathlib.Omega.{arith}
+use lib.ListN.{length, take}
+use Rattle.climb.specs.System.{System}
+use Rattle.climb.specs.Memory.{at}
+use Rattle.climb.proofs.Lists.{either}
+use Rattle.climb.proofs.Systems.{least-unique}
+use Rattle.climb.proofs.Finishing.{all-limits, lawful-circles}
+use Rattle.wire.specs.Instances.{declared, system}
+use Rattle.update.specs.declared.Record.{Record}
+use Rattle.update.specs.declared.Open.the-variants.{Load}
+use Rattle.update.specs.Records.{evaluationsMost, isOpen, beyond, shut, opened}
+use Rattle.update.specs.Memories.{Memory, loaded}
+use Rattle.update.specs.Refusals.{short, heldRefusal, loadRefusal, readRefusal}
+use Rattle.update.specs.Refused.{Leaves}
+use Rattle.update.specs.Steps.{sownOf}
+use Rattle.update.specs.Calls.{Said, refused, said, Left, is-open, unlessRead, loadCall, readCall}
+use Rattle.update.specs.Demands.{wholeOf}
+use Rattle.update.specs.History.{leaving, ranged, Working, begun, Worked, by-run, Opening, loads, History, finishes}
+use Rattle.update.specs.Promises.{Unaltered, EveryCall, Holds, EveryHistory, SameEnd, OneEnd, ComesToDone, AlwaysDone, ColdLoad, EqualsColdLoad}
+use Rattle.update.proofs.Within.{short-means, all-shut}
+use Rattle.update.proofs.Refusing.{all-exactly, all-leave}
+use Rattle.update.proofs.Ready.{circles, lawful, in-rank, Ready, begins, Settled}
+use Rattle.update.proofs.Openings.{load-is}
+use Rattle.update.proofs.Histories.{settled-history, ready-opening}
+
+-- ---- demand 1
+
+unaltered : {A : Type 0} (n : ℕ) (r : Record) (m : Memory) (left : Left (Said A)) → Leaves n r m left → Unaltered r m left
+unaltered {A} zero r m left l k h =
+    let c = l .carried refl in
+    let z : _≡_ {A = ℕ} 0 1 = clash (c .0) k (sym (c .1) ∙ h) in
+    absurd (omega arith)
+  where
+    clash : (a : A) (k : ℕ) → said a ≡ refused k → _≡_ {A = ℕ} 0 1
+    clash a k e = cc
+unaltered {A} (suc n) r m left l k h =
+    let e = l .refused (omega arith) in
+    (ap (λ (x : Left (Said A)). x .next) e, ap (λ (x : Left (Said A)). x .memory) e)
+
+pub every-call : EveryCall
+every-call t m r =
+    let l = all-leave t m r in
+    record {
+      given = all-exactly t m r;
+      leaves = l;
+      load = λ ns owns. unaltered _ r m _ (l .load ns owns);
+      replace = λ point new newOwns. unaltered _ r m _ (l .replace point new newOwns);
+      step = unaltered _ r m _ (l .step);
+      run = λ budget. unaltered _ r m _ (l .run budget);
+    }
+
+-- ---- demand 2
+
+-- what is settled can be read
+settled-reads : {t ns owns : List ℕ} {r : Record} {m : Memory} → Settled t ns owns r m → (x : ℕ) → declared t ns x ≡ true → readCall t m r x ≡ said (at (m .sets) x)
+unfolding readCall shut
+settled-reads {t} {ns} {owns} {r} {m} q x h = ap (λ (n : ℕ). unlessRead n (at (m .sets) x)) none
+  where
+    count : r .nodes ≡ length ns
+    count = ap (λ (k : Record). k .nodes) (q .closed)
+
+    tree : heldRefusal t m r ≡ 0
+    tree = rw (count, q .nodes, q .owns′) (q .sound .tree)
+
+    there : declared t (take (r .nodes) (m .productions)) x ≡ true
+    there = rw (count, q .nodes) h
+
+    within : beyond r ≡ false
+    within = ap beyond (q .closed) ∙ all-shut true (length ns) .within (q .sound .few)
+
+    none : readRefusal t m r x ≡ 0
+    none = all-exactly t m r .read x .by0 .1 (short-means m .1 (q .roomy), (q .sound .table, (within,
+        (ap (λ (k : Record). isOpen (k .«open»)) (q .closed), (ap (λ (k : Record). k .held) (q .closed), (tree, there))))))
+
+pub every-history : EveryHistory
+every-history t ns owns r m h =
+    let q = settled-history h in
+    record { closed = q .closed; nodes = q .nodes; owned = q .owns′; behind = q .behind; least = q .least; empty = q .empty; read = settled-reads q }
+
+same-end : {t ns owns : List ℕ} {r r′ : Record} {m m′ : Memory} → Settled t ns owns r m → Settled t ns owns r′ m′ → SameEnd r r′ m m′
+same-end {t} {ns} {owns} {r} {r′} {m} {m′} p q = record {
+  next = p .closed ∙ sym (q .closed);
+  sets = λ x. ⊎-elim
+      (λ (d : declared t ns x ≡ true). least-unique (system t ns owns) (at (m .sets)) (at (m′ .sets)) (p .least) (q .least) x d)
+      (λ (d : declared t ns x ≡ false). p .empty x d ∙ sym (q .empty x d)) (either (declared t ns x));
+}
+
+pub one-end : OneEnd
+one-end t ns owns r r′ m m′ h k = same-end (settled-history h) (settled-history k)
