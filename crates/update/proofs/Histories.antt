@@ -40,7 +40,7 @@ module _ {t ns owns : List ℕ} {r : Record} {m : Memory} (q : Ready t ns owns r
   in-none x h k = ⊎-elim (λ (e : member (circleAt R k) x ≡ true). absurd (true≢false (sym (in-rank (q .sound) .declared k x e) ∙ h))) (λ e. e) (either (member (circleAt R k) x))
 
   -- a finished run settles the tree
-  finished-settled : (n : ℕ) → wholeOf S R r (m .sets) < n → Settled t ns owns (ranOf S R r (m .sets) n .next) (withSets m (ranOf S R r (m .sets) n .sets))
+  pub finished-settled : (n : ℕ) → wholeOf S R r (m .sets) < n → Settled t ns owns (ranOf S R r (m .sets) n .next) (withSets m (ranOf S R r (m .sets) n .sets))
   finished-settled n h =
       let f = running.finishes S R r (m .sets) (begins q) n h in
       record {

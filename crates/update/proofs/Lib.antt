@@ -12,4 +12,5 @@ pub mod Ready
 pub mod Rows
 pub mod Openings
 pub mod Histories
+pub mod Updating
 pub mod Promises

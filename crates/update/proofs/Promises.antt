@@ -26,6 +26,7 @@ use Rattle.update.specs.Promises.{Unaltered, EveryCall, Holds, EveryHist
 use Rattle.update.proofs.Within.{short-means, all-shut}
 use Rattle.update.proofs.Refusing.{all-exactly, all-leave}
 use Rattle.update.proofs.Ready.{circles, lawful, in-rank, Ready, begins, Settled}
+use Rattle.update.proofs.Rows.{amid, to-done}
 use Rattle.update.proofs.Openings.{load-is}
 use Rattle.update.proofs.Histories.{settled-history, ready-opening}
 
@@ -93,3 +94,37 @@ same-end {t} {ns} {owns} {r} {r′} {m} {m′} p q = record {
 
 pub one-end : OneEnd
 one-end t ns owns r r′ m m′ h k = same-end (settled-history h) (settled-history k)
+
+-- the rounds of an update are fewer than the evaluations' limit
+few-rounds : {t ns owns : List ℕ} {r : Record} {m : Memory} → Ready t ns owns r m → wholeOf (system t ns owns) (circles t ns owns) r (m .sets) < evaluationsMost
+few-rounds {t} {ns} {owns} {r} {m} q =
+    let S = system t ns owns in
+    let R = circles t ns owns in
+    omega (arith, all-limits S R (lawful-circles S (lawful (q .sound)) R) (in-rank (q .sound)) (sownOf r) (at (m .sets)) (q .small) .made)
+
+pub always-done : AlwaysDone
+always-done t ns owns r r′ m m′ n o w budget h =
+    let q = ready-opening o in
+    let d = to-done q n budget r′ m′ (amid q w) (omega (arith, few-rounds q)) in
+    record {
+      rounds = d .rounds;
+      circles = d .c;
+      evaluations = d .e;
+      changed = d .x;
+      next = d .next;
+      memory = d .memory;
+      run = d .call;
+      history = finishes o (by-run budget w (d .call));
+    }
+
+pub equals-cold-load : EqualsColdLoad
+equals-cold-load t ns owns r r₁ m m₁ h s b o =
+    let q = settled-history h in
+    let e : loadRefusal t m₁ r₁ ns owns ≡ 0 = all-exactly t m₁ r₁ .load ns owns .by0 .1 (s, (q .sound .table, (b, (o, (q .sound .few, q .sound .tree))))) in
+    let l = load-is t m₁ r₁ ns owns e in
+    record {
+      next = opened Load (length ns) 0 (length ns);
+      memory = loaded m₁ ns owns;
+      load = l;
+      same = λ w. same-end q (settled-history (finishes (loads m₁ r₁ ns owns (q .sound .words) (q .sound .owned) l) w));
+    }

@@ -36,7 +36,7 @@ due-alike : (S : System) (R : List (List ℕ)) (r : Record) (b b′ s : List ℕ
 unfolding dueFrom
 due-alike S R r b b′ s e = ap (λ (u : Assignment). leastFrom (λ i. dueOf S (sownOf r) u (at s) (circleAt R i)) (length R - r .rank) (r .rank)) e
 
-changed-alike : (S : System) (r : Record) (b b′ s : List ℕ) → at b ≡ at b′ → changedOf S r b s ≡ changedOf S r b′ s
+pub changed-alike : (S : System) (r : Record) (b b′ s : List ℕ) → at b ≡ at b′ → changedOf S r b s ≡ changedOf S r b′ s
 unfolding changedOf
 changed-alike S r b b′ s e =
     ap (λ (u : Assignment). cond (isLoad (r .«open»)) 0 (length (keep (λ x. S .declared x && survives r x && not (eqb (at s x) (u x))) (upFrom 0 (S .size))))) e
@@ -61,7 +61,7 @@ run-alike S R b b′ e (suc n) r s =
 said-same : {A : Type 0} {a b : A} → said a ≡ said b → a ≡ b
 said-same e = cc
 
-never-both : {c e x : ℕ} → paused ≡ finished c e x → ⊥
+pub never-both : {c e x : ℕ} → paused ≡ finished c e x → ⊥
 never-both h = let z : _≡_ {A = ℕ} 0 1 = cc in absurd (omega arith)
 
 -- what one call leaves fits no second answer, record or memory
@@ -235,3 +235,37 @@ module _ {t ns owns : List ℕ} {r : Record} {m : Memory} (q : Ready t ns owns r
   ended {c} {e} {x} {r′} {m′} (by-step {n = n} {r = r₁} {m = m₁} w h) = finishes-ended n 1 0 c e x r′ m′ (behind-done n c e x r₁ r′ m₁ m′ (amid w) h)
   ended {c} {e} {x} {r′} {m′} (by-run {n = n} {k = k} {r = r₁} {m = m₁} budget w h) =
       finishes-ended n budget k c e x r′ m′ (behind-run n budget k (finished c e x) r₁ r′ m₁ m′ (amid w) h)
+
+  -- ---- what comes next
+
+  -- a run of k there is what is left of the whole run
+  pub run-there : (n k : ℕ) (r₁ : Record) (m₁ : Memory) → Amid n r₁ m₁ → runCall t m₁ r₁ k ≡ leaving (ranged (more n k .rounds) (more n k .ending)) (more n k .next) (now (more n k .sets))
+  run-there n k r₁ m₁ a = rw (a .next, a .memory) (run-is (run n .next) (run n .sets) (stays n (a .time)) k)
+
+  pub step-there : (n : ℕ) (r₁ : Record) (m₁ : Memory) → Amid n r₁ m₁ → stepCall t m₁ r₁ ≡ stepLeft (now (run n .sets)) (stepOf S R (run n .next) (m .sets) (run n .sets))
+  step-there n r₁ m₁ a = rw (a .next, a .memory) (step-is (run n .next) (run n .sets) (stays n (a .time)))
+
+  -- with budget enough it is done
+  pub record Done (k : ℕ) (r₁ : Record) (m₁ : Memory) : Type 0 where
+    pub rounds : ℕ
+    pub c : ℕ
+    pub e : ℕ
+    pub x : ℕ
+    pub next : Record
+    pub memory : Memory
+    pub call : runCall t m₁ r₁ k ≡ leaving (ranged rounds (finished c e x)) next memory
+
+  pub to-done : (n k : ℕ) (r₁ : Record) (m₁ : Memory) → Amid n r₁ m₁ → whole < n + k → Done k r₁ m₁
+  to-done n k r₁ m₁ a l =
+      let f = finishes S R r (m .sets) (begins q) (n + k) l in
+      let o = runs-on S R (m .sets) n k r (m .sets) (pauses S R r (m .sets) (begins q) n (a .time) .ending) in
+      let e = sym (ap (λ (y : Ran). y .ending) o) ∙ f .ending in
+      record {
+        rounds = more n k .rounds;
+        c = _;
+        e = _;
+        x = _;
+        next = more n k .next;
+        memory = now (more n k .sets);
+        call = run-there n k r₁ m₁ a ∙ ap (λ (y : Ending). leaving (ranged (more n k .rounds) y) (more n k .next) (now (more n k .sets))) e;
+      }

@@ -1,0 +1,196 @@
+-- An update from its opening to done, as the sets at done have it: its circles, their climbs, and every round in its turn. Assumes nothing.
+use mathlib.Core.Path.{_≡_, refl, sym, ap, _∙_, subst}
+use mathlib.Core.Bool.{Bool, true, false, cond}
+use mathlib.Core.Logic.{⊎-elim}
+use mathlib.Core.List.{List}
+use Prim.Native.Nat.{ℕ, zero, suc, _+_, _*_, _≤_, _<_, zero-le}
+use native.Mathlib.Omega.{arith}
+use lib.Dec.{eqb}
+use lib.ListN.{length, getD}
+use lib.Seq.{ext-getD}
+use Rattle.circles.specs.Ranked.{member}
+use Rattle.climb.specs.System.{Assignment, System, weight, Least}
+use Rattle.climb.specs.Inside.{Small, Agree}
+use Rattle.climb.specs.Climb.{stage, roundsOf}
+use Rattle.climb.specs.Circuit.{sumTo, circleAt, afterOf, workedOf, roundsAt, circlesTo, roundsTo, evaluationsTo}
+use Rattle.climb.specs.Laws.{Climbs, Alike}
+use Rattle.climb.specs.Memory.{at}
+use Rattle.climb.proofs.Lists.{either}
+use Rattle.climb.proofs.Systems.{gains-inside, lawful-inside, weight-cong}
+use Rattle.climb.proofs.Stages.{stage-out}
+use Rattle.climb.proofs.Rounds.{climbs, lone-once, agree-alike}
+use Rattle.climb.proofs.Restriction.{climbs-again}
+use Rattle.climb.proofs.Sums.{sum-le}
+use Rattle.climb.proofs.Working.{after-small}
+use Rattle.climb.proofs.Finishing.{agree-final, lawful-circles}
+use Rattle.wire.specs.Instances.{system}
+use Rattle.update.specs.declared.Record.{Record}
+use Rattle.update.specs.Memories.{Memory}
+use Rattle.update.specs.Steps.{sownOf, changedOf, Outcome, round, done, Made, stepOf, onward, Ending, paused, finished, Ran, runOf}
+use Rattle.update.specs.Calls.{Said, said, Left, withSets, stepLeft, runLeft, stepCall, runCall}
+use Rattle.update.specs.Demands.{ranOf, wholeOf, Scheduled, Finishes, RoundDone}
+use Rattle.update.specs.History.{leaving, ranged, Working, begun, Worked}
+use Rattle.update.specs.Promises.{due, climb, overDue, allRounds, Turn, Climbing, Makes, Update}
+use Rattle.update.proofs.Scheduling.{one-schedule}
+use Rattle.update.proofs.Meaning.{due-exactly}
+use Rattle.update.proofs.Running as running
+use Rattle.update.proofs.Ready.{circles, lawful, in-rank, Ready, begins, Settled}
+use Rattle.update.proofs.Rows.{changed-alike, never-both, Amid, amid, step-there, run-there, parts}
+use Rattle.update.proofs.Histories.{finished-settled}
+
+sum-same : (f g : ℕ → ℕ) (n : ℕ) → ((i : ℕ) → i < n → f i ≡ g i) → sumTo f n ≡ sumTo g n
+sum-same f g n h = omega (arith, sum-le f g n (λ i l. omega (arith, h i l)), sum-le g f n (λ i l. omega (arith, h i l)))
+
+-- a run of one that is done took a step that is
+record OneStep (o : Outcome) (r : Record) (s : List ℕ) (c e x : ℕ) (a : Ran) : Type 0 where
+  outcome : o ≡ done c e x
+  next : a .next ≡ r
+  sets : a .sets ≡ s
+
+one-step : (o : Outcome) (r : Record) (s : List ℕ) (c e x : ℕ) (go : Record → List ℕ → Ran) → ((r : Record) (s : List ℕ) → go r s .ending ≡ paused)
+    → onward o r s go .ending ≡ finished c e x → OneStep o r s c e x (onward o r s go)
+one-step (round a k n d) r s c e x go p h = absurd (never-both (sym (p r s) ∙ h))
+one-step (done a k n) r s c e x go p h = record { outcome = cc; next = refl; sets = refl }
+
+module _ {t ns owns : List ℕ} {r : Record} {m : Memory} (q : Ready t ns owns r m) (N : ℕ) (enough : wholeOf (system t ns owns) (circles t ns owns) r (m .sets) < N) where
+  abbrev S : System
+  S = system t ns owns
+
+  abbrev R : List (List ℕ)
+  R = circles t ns owns
+
+  abbrev run : ℕ → Ran
+  run n = ranOf S R r (m .sets) n
+
+  abbrev sown : ℕ → Bool
+  sown = sownOf r
+
+  abbrev b : Assignment
+  b = at (m .sets)
+
+  -- the sets at done
+  abbrev v : Assignment
+  v = at (run N .sets)
+
+  abbrev C : ℕ → List ℕ
+  C i = circleAt R i
+
+  F : Finishes S R r (m .sets) (run N)
+  F = running.finishes S R r (m .sets) (begins q) N enough
+
+  settled : Settled t ns owns (run N .next) (withSets m (run N .sets))
+  settled = finished-settled q N enough
+
+  -- ---- the circles and their climbs
+
+  rounds-is : (n : ℕ) → n ≤ length R → roundsTo S R sown b n ≡ overDue S R sown b v (climb S R v) n
+  rounds-is n l = sum-same _ _ n (λ i k. rw (F .due i (omega arith), F .climb i (omega arith)))
+
+  circles-is : circlesTo S R sown b (length R) ≡ overDue S R sown b v (λ i. 1) (length R)
+  circles-is = sum-same _ _ (length R) (λ i k. rw (F .due i k))
+
+  evaluations-is : evaluationsTo S R sown b (length R) ≡ overDue S R sown b v (λ i. length (C i) * climb S R v i) (length R)
+  evaluations-is = sum-same _ _ (length R) (λ i k. rw (F .due i k, F .climb i k))
+
+  whole-is : wholeOf S R r (m .sets) ≡ allRounds S R sown b v
+  whole-is = rounds-is (length R) (omega arith)
+
+  climbing : (i : ℕ) → i < length R → Climbing S (C i) v (climb S R v i)
+  climbing i l = record {
+    takes = c .takes;
+    ends = ends;
+    few = omega (arith, c .within, weight-cong (C i) (stage S (member (C i)) v (climb S R v i)) v same);
+    lone = λ h. lone-once S (C i) (gains-inside S (lawful (q .sound) .gaining) (member (C i))) h v .one;
+  }
+    where
+      c : Climbs S (C i) v
+      c = climbs S (C i) v (lawful-inside S (lawful (q .sound)) (member (C i))) (settled .small)
+
+      ends : (x : ℕ) → member (C i) x ≡ true → stage S (member (C i)) v (climb S R v i) x ≡ v x
+      ends x h = climbs-again S (lawful (q .sound)) v (settled .least) (member (C i)) (in-rank (q .sound) .declared i) (climb S R v i) (c .closed) x h
+
+      same : (x : ℕ) → stage S (member (C i)) v (climb S R v i) x ≡ v x
+      same x = ⊎-elim (λ (h : member (C i) x ≡ true). ends x h) (λ (h : member (C i) x ≡ false). stage-out S (member (C i)) v (climb S R v i) x h) (either (member (C i) x))
+
+  -- ---- turns
+
+  to-turn : (i k n : ℕ) → Scheduled S R sown b i k n → Turn S R sown b v i k n
+  to-turn i k n s = record {
+    rank = s .rank;
+    worked = sym (F .due i (s .rank)) ∙ s .worked;
+    some = s .some;
+    few = omega (arith, F .climb i (s .rank), s .few);
+    time = omega (arith, rounds-is i (omega (arith, s .rank)), s .time);
+  }
+
+  from-turn : (i k n : ℕ) → Turn S R sown b v i k n → Scheduled S R sown b i k n
+  from-turn i k n s = record {
+    rank = s .rank;
+    worked = F .due i (s .rank) ∙ s .worked;
+    some = s .some;
+    few = omega (arith, F .climb i (s .rank), s .few);
+    time = omega (arith, rounds-is i (omega (arith, s .rank)), s .time);
+  }
+
+  -- the values with which a circle is worked are for its climb those at done
+  alike : (i : ℕ) → i < length R → Alike S (C i) (afterOf S R sown b i) v
+  alike i l = agree-alike S (C i) (gains-inside S (lawful (q .sound) .gaining) (member (C i))) (afterOf S R sown b i) v
+      (λ x h y a o. sym (agree-final S R (in-rank (q .sound)) sown b i (omega arith) x h y a o) ∙ sym (ap (λ (u : Assignment). u y) (F .value)))
+
+  makes : (n : ℕ) (r₁ : Record) (m₁ : Memory) → Amid q n r₁ m₁ → (i k : ℕ) → Turn S R sown b v i k n → Makes S (C i) v (climb S R v i) k m₁ (stepCall t m₁ r₁)
+  makes n r₁ m₁ a i k s =
+      let d = running.each-round S R r (m .sets) (begins q) i k n (from-turn i k n s) in
+      let h = step-there q n r₁ m₁ a in
+      record {
+        answer = ap (λ (y : Left (Said Outcome)). y .answer) h ∙ ap said (d .outcome)
+            ∙ ap (λ (y : ℕ). said (round (getD (C i) 0 0) k (length (C i)) (eqb k y))) (F .climb i (s .rank));
+        stage = λ x e. ap (λ (y : Left (Said Outcome)). at (y .memory .sets) x) h ∙ ap (λ (u : Assignment). u x) (d .value) ∙ alike i (s .rank) .stages k x e;
+        elsewhere = λ x e. ap (λ (y : Left (Said Outcome)). at (y .memory .sets) x) h ∙ d .elsewhere x e ∙ sym (ap (λ (y : Memory). at (y .sets) x) (a .memory));
+        rest = rw (h, a .memory);
+      }
+
+  -- ---- pauses and done
+
+  -- a run of n from the opening
+  run-is : (n : ℕ) → runCall t m r n ≡ leaving (ranged (run n .rounds) (run n .ending)) (run n .next) (withSets m (run n .sets))
+  unfolding runOf
+  run-is n = run-there q 0 n r m (amid q begun)
+
+  pauses : (n : ℕ) → n ≤ wholeOf S R r (m .sets) → runCall t m r n ≡ leaving (ranged n paused) (run n .next) (withSets m (run n .sets))
+  pauses n l =
+      let p = running.pauses S R r (m .sets) (begins q) n l in
+      run-is n ∙ ap (λ (x : ℕ). leaving (ranged x (run n .ending)) (run n .next) (withSets m (run n .sets))) (p .rounds)
+      ∙ ap (λ (x : Ending). leaving (ranged n x) (run n .next) (withSets m (run n .sets))) (p .ending)
+
+  same-pause : (n : ℕ) (r₁ : Record) (m₁ : Memory) → Amid q n r₁ m₁ → runCall t m r n ≡ leaving (ranged n paused) r₁ m₁
+  same-pause n r₁ m₁ a = pauses n (a .time) ∙ rw (a .next, a .memory)
+
+  -- all that finish leave the same sets
+  same-sets : (n : ℕ) → wholeOf S R r (m .sets) < n → run n .sets ≡ run N .sets
+  same-sets n l =
+      let f = running.finishes S R r (m .sets) (begins q) n l in
+      ext-getD 0 (run n .sets) (run N .sets) (f .places ∙ sym (F .places)) (λ x k. ap (λ (u : Assignment). u x) (f .value ∙ sym (F .value)))
+
+  same-ending : (n : ℕ) → wholeOf S R r (m .sets) < n → run n .ending ≡ run N .ending
+  same-ending n l =
+      let f = running.finishes S R r (m .sets) (begins q) n l in
+      f .ending
+      ∙ ap (λ (s : List ℕ). finished (circlesTo S R sown b (length R)) (evaluationsTo S R sown b (length R)) (changedOf S r (m .sets) s)) (same-sets n l)
+      ∙ sym (F .ending)
+
+  same-next : (n : ℕ) → wholeOf S R r (m .sets) < n → run n .next ≡ run N .next
+  same-next n l = running.finishes S R r (m .sets) (begins q) n l .next ∙ sym (F .next)
+
+  -- the step behind the last round
+  last-step : (c e x : ℕ) → run N .ending ≡ finished c e x → (n : ℕ) (r₁ : Record) (m₁ : Memory) → Amid q n r₁ m₁ → n ≡ wholeOf S R r (m .sets)
+      → stepCall t m₁ r₁ ≡ leaving (done c e x) (run N .next) (withSets m (run N .sets))
+  unfolding runOf
+  last-step c e x h n r₁ m₁ a w =
+      let l : wholeOf S R r (m .sets) < n + 1 = omega arith in
+      let o = running.runs-on S R (m .sets) n 1 r (m .sets) (running.pauses S R r (m .sets) (begins q) n (a .time) .ending) in
+      let k = stepOf S R (run n .next) (m .sets) (run n .sets) in
+      let g = one-step (k .outcome) (k .next) (k .sets) c e x (runOf S R (m .sets) 0) (λ r s. refl) (sym (ap (λ (y : Ran). y .ending) o) ∙ same-ending (n + 1) l ∙ h) in
+      step-there q n r₁ m₁ a
+      ∙ ap (λ (y : Outcome). leaving y (k .next) (withSets m (k .sets))) (g .outcome)
+      ∙ ap (λ (y : Record). leaving (done c e x) y (withSets m (k .sets))) (sym (g .next) ∙ sym (ap (λ (y : Ran). y .next) o) ∙ same-next (n + 1) l)
+      ∙ ap (λ (y : List ℕ). leaving (done c e x) (run N .next) (withSets m y)) (sym (g .sets) ∙ sym (ap (λ (y : Ran). y .sets) o) ∙ same-sets (n + 1) l)
