@@ -296,6 +296,13 @@ ready-load {t} {ns} {owns} {r′} {m′} m r w o h =
     let p = parts (sym (load-is t m r ns owns e) ∙ h) in
     rw (p .next, p .memory) at (opened-load m r w o e)
 
+-- and the update that it opens is a load
+pub loads-open : (t : List ℕ) (m : Memory) (r : Record) (ns owns : List ℕ) {r′ : Record} {m′ : Memory} → loadCall t m r ns owns ≡ leaving is-open r′ m′ → isLoad (r′ .«open») ≡ true
+unfolding opened
+loads-open t m r ns owns h =
+    let e = taken (loadRefusal t m r ns owns) (all-leave t m r .load ns owns) h in
+    ap (λ (k : Left (Said Opened)). isLoad (k .next .«open»)) (sym h ∙ load-is t m r ns owns e)
+
 pub ready-replacement : {t ns owns : List ℕ} {r r′ : Record} {m m′ : Memory} (point : ℕ) (new newOwns : List ℕ) → Settled t ns owns r m → Words newOwns
     → replaceCall t m r point new newOwns ≡ leaving is-open r′ m′ → Ready t (nodesAfter t ns new point) (ownsAfter t ns owns newOwns point) r′ m′
 ready-replacement {t} {ns} {owns} {r} {r′} {m} {m′} point new newOwns q w h =

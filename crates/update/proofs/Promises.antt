@@ -7,6 +7,7 @@ use Prim.Native.Nat.{ℕ, zero, suc, _+_, _≤_, _<_}
 use native.Mathlib.Omega.{arith}
 use lib.ListN.{length, take}
 use Rattle.climb.specs.System.{System}
+use Rattle.climb.specs.Circuit.{evaluationsTo}
 use Rattle.climb.specs.Memory.{at}
 use Rattle.climb.proofs.Lists.{either}
 use Rattle.climb.proofs.Systems.{least-unique}
@@ -22,12 +23,14 @@ use Rattle.update.specs.Steps.{sownOf}
 use Rattle.update.specs.Calls.{Said, refused, said, Left, is-open, unlessRead, loadCall, readCall}
 use Rattle.update.specs.Demands.{wholeOf}
 use Rattle.update.specs.History.{leaving, ranged, Working, begun, Worked, by-run, Opening, loads, History, finishes}
-use Rattle.update.specs.Promises.{Unaltered, EveryCall, Holds, EveryHistory, SameEnd, OneEnd, ComesToDone, AlwaysDone, ColdLoad, EqualsColdLoad}
+use Rattle.update.specs.Promises.{Unaltered, EveryCall, Holds, EveryHistory, SameEnd, OneEnd, ComesToDone, AlwaysDone, ColdLoad, EqualsColdLoad, EveryUpdate, NoMoreThanLoad}
 use Rattle.update.proofs.Within.{short-means, all-shut}
 use Rattle.update.proofs.Refusing.{all-exactly, all-leave}
 use Rattle.update.proofs.Ready.{circles, lawful, in-rank, Ready, begins, Settled}
-use Rattle.update.proofs.Rows.{amid, to-done}
-use Rattle.update.proofs.Openings.{load-is}
+use Rattle.update.proofs.Running as running
+use Rattle.update.proofs.Rows.{amid, ended, to-done}
+use Rattle.update.proofs.Openings.{load-is, loads-open, ready-load}
+use Rattle.update.proofs.Updating.{numbers, whole-update}
 use Rattle.update.proofs.Histories.{settled-history, ready-opening}
 
 -- ---- demand 1
@@ -128,3 +131,23 @@ equals-cold-load t ns owns r r₁ m m₁ h s b o =
       load = l;
       same = λ w. same-end q (settled-history (finishes (loads m₁ r₁ ns owns (q .sound .words) (q .sound .owned) l) w));
     }
+
+-- ---- demand 3
+
+pub every-update : EveryUpdate
+every-update t ns owns r r′ m m′ c e x o w = whole-update (ready-opening o) w
+
+-- what done reports is the sum that the definition of an update has
+evaluated : {t ns owns : List ℕ} {r r′ : Record} {m m′ : Memory} {c e x : ℕ} (q : Ready t ns owns r m) → Worked t r m c e x r′ m′
+    → e ≡ evaluationsTo (system t ns owns) (circles t ns owns) (sownOf r) (at (m .sets)) (length (circles t ns owns))
+evaluated {t} {ns} {owns} {r} {r′} {m} {m′} {c} {e} {x} q w =
+    let d = ended q w in
+    let f = sym (d .ending) ∙ running.finishes (system t ns owns) (circles t ns owns) r (m .sets) (begins q) (d .budget) (d .enough) .ending in
+    numbers f .e
+
+pub no-more-than-load : NoMoreThanLoad
+no-more-than-load t ns owns r r′ r₁ r₂ r₃ m m′ m₁ m₂ m₃ c e x c′ e′ x′ o w h k =
+    let q = ready-opening o in
+    let p = ready-load m₁ r₁ (q .sound .words) (q .sound .owned) h in
+    let l = running.load-evaluates (system t ns owns) (circles t ns owns) r r₂ (m .sets) (m₂ .sets) (begins q) (begins p) (q .kept) (loads-open t m₁ r₁ ns owns h) in
+    omega (arith, l, evaluated q w, evaluated p k)

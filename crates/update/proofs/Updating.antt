@@ -28,18 +28,27 @@ use Rattle.update.specs.declared.Record.{Record}
 use Rattle.update.specs.Memories.{Memory}
 use Rattle.update.specs.Steps.{sownOf, changedOf, Outcome, round, done, Made, stepOf, onward, Ending, paused, finished, Ran, runOf}
 use Rattle.update.specs.Calls.{Said, said, Left, withSets, stepLeft, runLeft, stepCall, runCall}
-use Rattle.update.specs.Demands.{ranOf, wholeOf, Scheduled, Finishes, RoundDone}
+use Rattle.update.specs.Demands.{ranOf, wholeOf, Scheduled, Finishes, Below}
 use Rattle.update.specs.History.{leaving, ranged, Working, begun, Worked}
 use Rattle.update.specs.Promises.{due, climb, overDue, allRounds, Turn, Climbing, Makes, Update}
 use Rattle.update.proofs.Scheduling.{one-schedule}
 use Rattle.update.proofs.Meaning.{due-exactly}
 use Rattle.update.proofs.Running as running
 use Rattle.update.proofs.Ready.{circles, lawful, in-rank, Ready, begins, Settled}
-use Rattle.update.proofs.Rows.{changed-alike, never-both, Amid, amid, step-there, run-there, parts}
+use Rattle.update.proofs.Rows.{changed-alike, never-both, Amid, amid, ended, step-there, run-there}
 use Rattle.update.proofs.Histories.{finished-settled}
 
 sum-same : (f g : ℕ → ℕ) (n : ℕ) → ((i : ℕ) → i < n → f i ≡ g i) → sumTo f n ≡ sumTo g n
 sum-same f g n h = omega (arith, sum-le f g n (λ i l. omega (arith, h i l)), sum-le g f n (λ i l. omega (arith, h i l)))
+
+-- done's numbers, one by one
+pub record Numbers (circles evaluations changed circles′ evaluations′ changed′ : ℕ) : Type 0 where
+  pub c : circles ≡ circles′
+  pub e : evaluations ≡ evaluations′
+  pub x : changed ≡ changed′
+
+pub numbers : {c e x c′ e′ x′ : ℕ} → finished c e x ≡ finished c′ e′ x′ → Numbers c e x c′ e′ x′
+numbers h = record { c = cc; e = cc; x = cc }
 
 -- a run of one that is done took a step that is
 record OneStep (o : Outcome) (r : Record) (s : List ℕ) (c e x : ℕ) (a : Ran) : Type 0 where
@@ -194,3 +203,41 @@ module _ {t ns owns : List ℕ} {r : Record} {m : Memory} (q : Ready t ns owns r
       ∙ ap (λ (y : Outcome). leaving y (k .next) (withSets m (k .sets))) (g .outcome)
       ∙ ap (λ (y : Record). leaving (done c e x) y (withSets m (k .sets))) (sym (g .next) ∙ sym (ap (λ (y : Ran). y .next) o) ∙ same-next (n + 1) l)
       ∙ ap (λ (y : List ℕ). leaving (done c e x) (run N .next) (withSets m y)) (sym (g .sets) ∙ sym (ap (λ (y : Ran). y .sets) o) ∙ same-sets (n + 1) l)
+
+  -- ---- the whole
+
+  update : (c e x : ℕ) → run N .ending ≡ finished c e x → Update t S R b r m c e x (run N .next) (withSets m (run N .sets))
+  update c e x h =
+      let o = one-schedule S R sown b in
+      let g = numbers (sym h ∙ F .ending) in
+      record {
+        exactly = λ i. due-exactly S sown b v (C i);
+        climbing = climbing;
+        worked = g .c ∙ circles-is;
+        sum = g .e ∙ evaluations-is;
+        differs = g .x ∙ changed-alike S r (m .sets) (m .before) (run N .sets) (sym (q .before));
+        turn = λ n l. let d = running.nth-round S R r (m .sets) (begins q) n (omega (arith, whole-is)) in (d .i, d .k, to-turn (d .i) (d .k) n (d .scheduled));
+        one = λ i k j l n f f′. o .one i k j l n (from-turn i k n f) (from-turn j l n f′);
+        within = λ i k n f. omega (arith, whole-is, o .within i k n (from-turn i k n f));
+        pauses = λ n l. (run n .next, withSets m (run n .sets), pauses n (omega (arith, whole-is)));
+        same = λ {n} {r₁} {m₁} w. same-pause n r₁ m₁ (amid q w);
+        makes = λ {n} {r₁} {m₁} w i k f. makes n r₁ m₁ (amid q w) i k f;
+        last = λ {n} {r₁} {m₁} w. omega (arith, whole-is, amid q w .time);
+        ends = λ {n} {r₁} {m₁} w l. last-step c e x h n r₁ m₁ (amid q w) (l ∙ sym whole-is);
+        limits = λ {n} {r₁} {m₁} w. let a = amid q w in below n r₁ (a .next) (a .time);
+      }
+    where
+      below : (n : ℕ) (r₁ : Record) → r₁ ≡ run n .next → n ≤ wholeOf S R r (m .sets) → Below r₁
+      below n r₁ e l = rw e (running.never-at-limits S R r (m .sets) (begins q) n l)
+
+-- from the opening to wherever it was worked to
+pub whole-update : {t ns owns : List ℕ} {r r′ : Record} {m m′ : Memory} {c e x : ℕ} → Ready t ns owns r m → Worked t r m c e x r′ m′
+    → Update t (system t ns owns) (circles t ns owns) (at (m .before)) r m c e x r′ m′
+whole-update {t} {ns} {owns} {r} {r′} {m} {m′} {c} {e} {x} q w =
+    let S = system t ns owns in
+    let R = circles t ns owns in
+    let d = ended q w in
+    let u = update q (d .budget) (d .enough) c e x (d .ending) in
+    let u₁ = subst (λ (k : Record). Update t S R (at (m .sets)) r m c e x k (withSets m (ranOf S R r (m .sets) (d .budget) .sets))) (sym (d .next)) u in
+    let u₂ = subst (λ (k : Memory). Update t S R (at (m .sets)) r m c e x r′ k) (sym (d .memory)) u₁ in
+    subst (λ (k : Assignment). Update t S R k r m c e x r′ m′) (sym (q .before)) u₂
