@@ -52,6 +52,7 @@ module _ {t ns owns : List ℕ} {r : Record} {m : Memory} (q : Ready t ns owns r
         behind = q .behind;
         small = small (ranOf S R r (m .sets) n) f;
         empty = empty (ranOf S R r (m .sets) n) f;
+        emptied = λ x e. ap (λ (u : Assignment). u x) (q .before) ∙ q .empty x e;
         least = running.least-at-done S R r (m .sets) (begins q) (q .kept) n h;
       }
     where

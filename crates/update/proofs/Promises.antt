@@ -85,7 +85,7 @@ settled-reads {t} {ns} {owns} {r} {m} q x h = ap (λ (n : ℕ). unlessRead n (at
 pub every-history : EveryHistory
 every-history t ns owns r m h =
     let q = settled-history h in
-    record { closed = q .closed; nodes = q .nodes; owned = q .owns′; behind = q .behind; least = q .least; empty = q .empty; read = settled-reads q }
+    record { closed = q .closed; nodes = q .nodes; owned = q .owns′; behind = q .behind; least = q .least; empty = λ x e. (q .empty x e, q .emptied x e); read = settled-reads q }
 
 same-end : {t ns owns : List ℕ} {r r′ : Record} {m m′ : Memory} → Settled t ns owns r m → Settled t ns owns r′ m′ → SameEnd r r′ m m′
 same-end {t} {ns} {owns} {r} {r′} {m} {m′} p q = record {

@@ -114,4 +114,5 @@ pub record Settled (t ns owns : List ℕ) (r : Record) (m : Memory) : Type 0 whe
   pub behind : (i : ℕ) → length ns ≤ i → (getD (m .productions) i 0 ≡ 0) × (getD (m .owns) i 0 ≡ 0)
   pub small : Small (at (m .sets))
   pub empty : (x : ℕ) → declared t ns x ≡ false → at (m .sets) x ≡ 0
+  pub emptied : (x : ℕ) → declared t ns x ≡ false → at (m .before) x ≡ 0
   pub least : Least (system t ns owns) (at (m .sets))

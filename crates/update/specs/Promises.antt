@@ -54,7 +54,7 @@ pub record Holds (t ns owns : List ℕ) (r : Record) (m : Memory) : Type 0 where
   -- the declared sets are the least consistent assignment, of all assignments that there are
   pub least : Least (system t ns owns) (at (m .sets))
   -- "and each undeclared slot, becomes zero"
-  pub empty : (x : ℕ) → declared t ns x ≡ false → at (m .sets) x ≡ 0
+  pub empty : (x : ℕ) → declared t ns x ≡ false → (at (m .sets) x ≡ 0) × (at (m .before) x ≡ 0)
   -- and they can be read
   pub read : (x : ℕ) → declared t ns x ≡ true → readCall t m r x ≡ said (at (m .sets) x)
 
@@ -99,80 +99,90 @@ EqualsColdLoad = (t ns owns : List ℕ) (r r₁ : Record) (m m₁ : Memory) → 
 
 -- ---- demand 3: the circles worked on, their rounds, and what each round leaves
 
--- S is the system of the tree and R its circles by rank; b are the before values, and v the sets at done.
--- "A circle is due if it has a sown instance, or an argument outside itself whose value differs from its before value.": circle i
-abbrev pub due : System → List (List ℕ) → (ℕ → Bool) → Assignment → Assignment → ℕ → Bool
-due S R sown b v i = dueOf S sown b v (circleAt R i)
-
--- "each takes the rounds of its climb from empty"
-abbrev pub climb : System → List (List ℕ) → Assignment → ℕ → ℕ
-climb S R v i = roundsOf S (circleAt R i) v
-
 -- f added up over the due circles of rank below n
-abbrev pub overDue : System → List (List ℕ) → (ℕ → Bool) → Assignment → Assignment → (ℕ → ℕ) → ℕ → ℕ
-overDue S R sown b v f n = sumTo (λ i. cond (due S R sown b v i) (f i) 0) n
+abbrev pub overDue : (ℕ → Bool) → (ℕ → ℕ) → ℕ → ℕ
+overDue due f n = sumTo (λ i. cond (due i) (f i) 0) n
 
--- the rounds of them all
-abbrev pub allRounds : System → List (List ℕ) → (ℕ → Bool) → Assignment → Assignment → ℕ
-allRounds S R sown b v = overDue S R sown b v (climb S R v) (length R)
-
--- after n rounds it is the turn of circle i, which is due, and of its round k: "One step takes the first due circle in rank not yet closed and makes
--- one round."
-pub record Turn (S : System) (R : List (List ℕ)) (sown : ℕ → Bool) (b v : Assignment) (i k n : ℕ) : Type 0 where
-  pub rank : i < length R
-  pub worked : due S R sown b v i ≡ true
+-- "One step takes the first due circle in rank not yet closed and makes one round.": after n rounds it is the turn of round k of circle i; climb i are the
+-- rounds of circle i, of `count` circles
+pub record Turn (count : ℕ) (due : ℕ → Bool) (climb : ℕ → ℕ) (i k n : ℕ) : Type 0 where
+  pub rank : i < count
+  pub worked : due i ≡ true
   pub some : 1 ≤ k
-  pub few : k ≤ climb S R v i
-  pub time : suc n ≡ overDue S R sown b v (climb S R v) i + k
+  pub few : k ≤ climb i
+  pub time : suc n ≡ overDue due climb i + k
 
--- the climb of the circle C from empty, with so many rounds
+-- the climb of the circle C from empty, the outside held as it is in v: it takes so many rounds
 pub record Climbing (S : System) (C : List ℕ) (v : Assignment) (rounds : ℕ) : Type 0 where
   -- the last of them closes the circle, and none before it
   pub takes : Takes S C v rounds
-  -- there it has the sets that are held at done
+  -- and gives the sets that are in v
   pub ends : (x : ℕ) → member C x ≡ true → stage S (member C) v rounds x ≡ v x
   -- "at most one more than the members it ends with, a lone one takes one"
   pub few : rounds ≤ 1 + weight C v
   pub lone : loneOf (graphOf S) C ≡ true → rounds ≡ 1
 
--- the step in memory m that makes round k of the climb of C
+-- the step in memory m that makes round k of this climb
 pub record Makes (S : System) (C : List ℕ) (v : Assignment) (rounds k : ℕ) (m : Memory) (left : Left (Said Outcome)) : Type 0 where
-  -- "least instance [..], round [..], circle size [..], closed": at the last round
+  -- "least instance [..], round [..], circle size [..], closed", at the last round
   pub answer : left .answer ≡ said (round (getD C 0 0) k (length C) (eqb k rounds))
   -- "after each round the sets are that stage of the climb on the circle and unaltered elsewhere"
   pub stage : (x : ℕ) → member C x ≡ true → at (left .memory .sets) x ≡ stage S (member C) v k x
   pub elsewhere : (x : ℕ) → member C x ≡ false → at (left .memory .sets) x ≡ at (m .sets) x
   pub rest : left .memory ≡ withSets m (left .memory .sets)
 
--- an update of the tree with the system S and the circles R, from its opening with record r and memory m to done with r′ and m′; b are the before values
-pub record Update (t : List ℕ) (S : System) (R : List (List ℕ)) (b : Assignment) (r : Record) (m : Memory) (circles evaluations changed : ℕ) (r′ : Record) (m′ : Memory) : Type 0 where
+-- the circle C is worked on: in some row of steps and runs from the opening on, a step makes a round of it
+pub record WorkedOn (t : List ℕ) (r : Record) (m : Memory) (C : List ℕ) : Type 0 where
+  pub n : ℕ
+  pub k : ℕ
+  pub closed : Bool
+  pub next : Record
+  pub memory : Memory
+  pub row : Working t r m n next memory
+  pub step : stepCall t memory next .answer ≡ said (round (getD C 0 0) k (length C) closed)
+
+-- an update from its opening with record r and memory m to done with r′ and m′, of a tree with the system S and the circles R by rank; `before` are the
+-- before values, due i says whether circle i is due, and climb i are the rounds of its climb, both by the sets at done
+pub record Update (t : List ℕ) (S : System) (R : List (List ℕ)) (before : Assignment) (due : ℕ → Bool) (climb : ℕ → ℕ)
+    (r : Record) (m : Memory) (circles evaluations changed : ℕ) (r′ : Record) (m′ : Memory) : Type 0 where
   -- "the circles worked on are exactly those with a sown instance and those with an argument outside themselves whose value changed"
-  pub exactly : (i : ℕ) → (due S R (sownOf r) b (at (m′ .sets)) i ≡ true) ↔ Due S (sownOf r) b (at (m′ .sets)) (circleAt R i)
-  pub climbing : (i : ℕ) → i < length R → Climbing S (circleAt R i) (at (m′ .sets)) (climb S R (at (m′ .sets)) i)
+  pub exactly : (i : ℕ) → (due i ≡ true) ↔ Due S (sownOf r) before (at (m′ .sets)) (circleAt R i)
+  pub worked : (i : ℕ) → (due i ≡ true) ↔ WorkedOn t r m (circleAt R i)
+  -- "each takes the rounds of its climb from empty"
+  pub climbing : (i : ℕ) → i < length R → Climbing S (circleAt R i) (at (m′ .sets)) (climb i)
   -- done's numbers: "evaluations are the sum of size times rounds over them"
-  pub worked : circles ≡ overDue S R (sownOf r) b (at (m′ .sets)) (λ i. 1) (length R)
-  pub sum : evaluations ≡ overDue S R (sownOf r) b (at (m′ .sets)) (λ i. length (circleAt R i) * climb S R (at (m′ .sets)) i) (length R)
+  pub count : circles ≡ overDue due (λ i. 1) (length R)
+  pub sum : evaluations ≡ overDue due (λ i. length (circleAt R i) * climb i) (length R)
   pub differs : changed ≡ changedOf S r (m .before) (m′ .sets)
-  -- every round of every due circle has its turn, and there is no other round
-  pub turn : (n : ℕ) → n < allRounds S R (sownOf r) b (at (m′ .sets)) → (i : ℕ) × (k : ℕ) × Turn S R (sownOf r) b (at (m′ .sets)) i k n
-  pub one : (i k j l n : ℕ) → Turn S R (sownOf r) b (at (m′ .sets)) i k n → Turn S R (sownOf r) b (at (m′ .sets)) j l n → (i ≡ j) × (k ≡ l)
-  pub within : (i k n : ℕ) → Turn S R (sownOf r) b (at (m′ .sets)) i k n → n < allRounds S R (sownOf r) b (at (m′ .sets))
-  -- a run of n rounds pauses behind them, as does any row of steps and runs, and the next step makes the round whose turn it is
-  pub pauses : (n : ℕ) → n ≤ allRounds S R (sownOf r) b (at (m′ .sets)) → (r₁ : Record) × (m₁ : Memory) × (runCall t m r n ≡ leaving (ranged n paused) r₁ m₁)
-  pub same : {n : ℕ} {r₁ : Record} {m₁ : Memory} → Working t r m n r₁ m₁ → runCall t m r n ≡ leaving (ranged n paused) r₁ m₁
-  pub makes : {n : ℕ} {r₁ : Record} {m₁ : Memory} → Working t r m n r₁ m₁ → (i k : ℕ) → Turn S R (sownOf r) b (at (m′ .sets)) i k n
-      → Makes S (circleAt R i) (at (m′ .sets)) (climb S R (at (m′ .sets)) i) k m₁ (stepCall t m₁ r₁)
-  -- done comes behind the last, and no sooner
-  pub last : {n : ℕ} {r₁ : Record} {m₁ : Memory} → Working t r m n r₁ m₁ → n ≤ allRounds S R (sownOf r) b (at (m′ .sets))
-  pub ends : {n : ℕ} {r₁ : Record} {m₁ : Memory} → Working t r m n r₁ m₁ → n ≡ allRounds S R (sownOf r) b (at (m′ .sets))
-      → stepCall t m₁ r₁ ≡ leaving (done circles evaluations changed) r′ m′
-  -- "the record's limits are never reached", so the numbers in it are never cut off
-  pub limits : {n : ℕ} {r₁ : Record} {m₁ : Memory} → Working t r m n r₁ m₁ → Below r₁
+  -- each of their rounds has its turn, and each turn its one round
+  pub turn : (n : ℕ) → n < overDue due climb (length R) → (i : ℕ) × (k : ℕ) × Turn (length R) due climb i k n
+  pub one : (i k j l n : ℕ) → Turn (length R) due climb i k n → Turn (length R) due climb j l n → (i ≡ j) × (k ≡ l)
+  pub within : (i k n : ℕ) → Turn (length R) due climb i k n → n < overDue due climb (length R)
+  -- whatever row of steps and runs made n rounds, all is as a run of n rounds leaves it
+  pub pauses : (n : ℕ) → n ≤ overDue due climb (length R) → (next : Record) × (memory : Memory) × (runCall t m r n ≡ leaving (ranged n paused) next memory)
+  pub same : {n : ℕ} {next : Record} {memory : Memory} → Working t r m n next memory → runCall t m r n ≡ leaving (ranged n paused) next memory
+  -- and the next step makes the round whose turn it is, or is done behind the last
+  pub makes : {n : ℕ} {next : Record} {memory : Memory} → Working t r m n next memory → (i k : ℕ) → Turn (length R) due climb i k n
+      → Makes S (circleAt R i) (at (m′ .sets)) (climb i) k memory (stepCall t memory next)
+  pub last : {n : ℕ} {next : Record} {memory : Memory} → Working t r m n next memory → n ≤ overDue due climb (length R)
+  pub ends : {n : ℕ} {next : Record} {memory : Memory} → Working t r m n next memory → n ≡ overDue due climb (length R)
+      → stepCall t memory next ≡ leaving (done circles evaluations changed) r′ m′
+  -- "the record's limits are never reached": its numbers are never cut off
+  pub limits : {n : ℕ} {next : Record} {memory : Memory} → Working t r m n next memory → Below next
+
+-- the due circles and their climbs, where v are the sets at done
+abbrev pub dueBy : System → List (List ℕ) → (ℕ → Bool) → Assignment → Assignment → ℕ → Bool
+dueBy S R sown before v i = dueOf S sown before v (circleAt R i)
+
+abbrev pub climbBy : System → List (List ℕ) → Assignment → ℕ → ℕ
+climbBy S R v i = roundsOf S (circleAt R i) v
 
 abbrev pub EveryUpdate : Type 0
 EveryUpdate = (t ns owns : List ℕ) (r r′ : Record) (m m′ : Memory) (circles evaluations changed : ℕ) → Opening t ns owns r m
     → Worked t r m circles evaluations changed r′ m′
-    → Update t (system t ns owns) (ranked (graphOf (system t ns owns))) (at (m .before)) r m circles evaluations changed r′ m′
+    → let S = system t ns owns in
+    let R = ranked (graphOf S) in
+    Update t S R (at (m .before)) (dueBy S R (sownOf r) (at (m .before)) (at (m′ .sets))) (climbBy S R (at (m′ .sets))) r m circles evaluations changed r′ m′
 
 -- "and never exceed what a cold load of the same tree reports"
 abbrev pub NoMoreThanLoad : Type 0
