@@ -1,13 +1,11 @@
--- Buffers filled with a list and zeros behind it, lists by their slots, and lists of which a part is exchanged. Assumes nothing.
+-- Buffers filled with a list and zeros behind it, and lists of which a part is exchanged. Assumes nothing.
 use mathlib.Core.Path.{_≡_, refl, ap, sym, _∙_}
-use mathlib.Core.List.{List, [], _∷_, _++_, map}
-use Prim.Native.Nat.{ℕ, zero, suc, _+_, _-_, _≤_, _<_}
-use native.Mathlib.Nat.{le-of-suc-le-suc, not-suc-le-zero}
+use mathlib.Core.List.{List, _++_}
+use Prim.Native.Nat.{ℕ, zero, suc, _+_, _-_, _≤_}
 use native.Mathlib.Decide.{decLt}
 use native.Mathlib.Omega.{arith}
-use lib.ListN.{length, getD, take, drop, replicate, length-append, length-replicate, length-drop, length-map, List·getD-append, List·getD-eq-default}
+use lib.ListN.{length, getD, take, drop, replicate, length-append, length-replicate, length-drop, List·getD-append, List·getD-eq-default}
 use lib.Seq.{length-take-le, take-at, getD-append-add}
-use Rattle.circles.specs.Ranked.{upFrom}
 use Rattle.tree.specs.Replace.{exchanged}
 use Rattle.update.specs.Memories.{filled}
 
@@ -42,25 +40,6 @@ take-filled xs l n e = take-at xs (replicate (length l - length xs) 0) n e
 -- and what lies behind
 pub behind-filled : (xs l : List ℕ) (i : ℕ) → length xs ≤ i → getD (filled xs l) i 0 ≡ 0
 behind-filled xs l i h = getD-filled xs l i ∙ List·getD-eq-default xs 0 h
-
--- ---- a list by its slots
-
-pub length-upFrom : (k n : ℕ) → length (upFrom k n) ≡ n
-unfolding upFrom
-length-upFrom k zero = refl
-length-upFrom k (suc n) = ap suc (length-upFrom (suc k) n)
-
-pub length-slots : (f : ℕ → ℕ) (n : ℕ) → length (map f (upFrom 0 n)) ≡ n
-length-slots f n = length-map (upFrom 0 n) f ∙ length-upFrom 0 n
-
-from-k : (f : ℕ → ℕ) (k n i : ℕ) → i < n → getD (map f (upFrom k n)) i 0 ≡ f (k + i)
-unfolding upFrom
-from-k f k zero i h = absurd (not-suc-le-zero h)
-from-k f k (suc n) zero h = let e : k ≡ k + 0 = omega arith in ap f e
-from-k f k (suc n) (suc i) h = let e : suc k + i ≡ k + suc i = omega arith in from-k f (suc k) n i (le-of-suc-le-suc h) ∙ ap f e
-
-pub getD-slots : (f : ℕ → ℕ) (n x : ℕ) → x < n → getD (map f (upFrom 0 n)) x 0 ≡ f x
-getD-slots f n x h = let e : 0 + x ≡ x = omega arith in from-k f 0 n x h ∙ ap f e
 
 -- ---- a part exchanged
 

@@ -3,13 +3,13 @@ use mathlib.Core.Path.{_≡_, sym, ap, _∙_, subst}
 use mathlib.Core.Bool.{true, false, true≢false}
 use mathlib.Core.Logic.{⊎-elim}
 use mathlib.Core.List.{List}
-use Prim.Native.Nat.{ℕ, _≤_, _<_}
+use Prim.Native.Nat.{ℕ, _<_}
 use native.Mathlib.Omega.{arith}
 use lib.ListN.{length}
 use Rattle.circles.specs.Ranked.{member}
 use Rattle.climb.specs.System.{Assignment, System}
 use Rattle.climb.specs.Inside.{Small}
-use Rattle.climb.specs.Circuit.{circleAt, afterOf}
+use Rattle.climb.specs.Circuit.{circleAt}
 use Rattle.climb.specs.Memory.{at}
 use Rattle.climb.proofs.Lists.{either}
 use Rattle.climb.proofs.Working.{untouched, after-small}

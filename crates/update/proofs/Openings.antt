@@ -1,38 +1,34 @@
 -- An accepted load, and an accepted replacement in a settled tree, leave an update ready to begin. Assumes nothing.
 use mathlib.Core.Path.{_≡_, refl, sym, ap, _∙_, fun-ext}
 use mathlib.Core.Bool.{Bool, true, false, cond, _&&_}
-use mathlib.Core.Logic.{_⊎_, inl, inr, ⊎-elim}
-use mathlib.Core.List.{List, [], _∷_, _++_, map}
-use Prim.Native.Nat.{ℕ, zero, suc, _+_, _-_, _*_, _/_, _%_, _^_, _≤_, _<_, zero-le}
-use native.Mathlib.Nat.{le-trans, div-lt-iff-lt-mul}
+use mathlib.Core.List.{List, _++_, map}
+use Prim.Native.Nat.{ℕ, zero, suc, _+_, _-_, _*_, _/_, _%_, _≤_, _<_}
 use native.Mathlib.Decide.{decLt}
 use native.Mathlib.Omega.{arith}
-use lib.Dec.{eqb, ltb}
-use lib.ListN.{length, getD, take, drop, replicate, length-replicate, length-take, length-drop, length-append, List·getD-append, List·getD-eq-default}
+use lib.Dec.{ltb}
+use lib.ListN.{length, getD, take, drop, replicate, length-replicate, length-take, List·getD-append, List·getD-eq-default}
 use lib.Seq.{getD-drop, getD-append-add, getD-take}
-use borrow.Author.Tests.{eq-eqb, ltb-false, le-ltb, lt-ltb}
-use Rattle.table.specs.Words.{leftOf, hasSet}
-use Rattle.tree.specs.Tree.{judgeNodes, judgeTree}
+use borrow.Author.Tests.{eq-eqb, le-ltb}
+use Rattle.table.specs.Words.{leftOf}
+use Rattle.tree.specs.Tree.{judgeTree}
 use Rattle.tree.specs.Replace.{exchanged, part, formerly}
 use Rattle.tree.specs.Replacement.{Replacement as Replaces}
 use Rattle.tree.proofs.Replace.{replacement}
-use Rattle.circles.specs.Ranked.{member, upFrom}
-use Rattle.climb.specs.System.{Least}
+use Rattle.circles.specs.Ranked.{upFrom}
+use Rattle.circles.proofs.Lists.{map-at, map-long}
 use Rattle.climb.specs.Inside.{Small}
 use Rattle.climb.specs.Memory.{at}
-use Rattle.climb.proofs.Lists.{either}
 use Rattle.climb.proofs.Systems.{cond-lt}
 use Rattle.wire.specs.Instances.{nodeOf, indexOf, declared, system}
 use Rattle.wire.specs.Laws.{Words}
-use Rattle.wire.specs.Replaced.{formerSlot, sownBy, Survives, upTo, behind, Replacing, nodesAfter, ownsAfter, slotBefore, Arranged}
+use Rattle.wire.specs.Replaced.{formerSlot, sownBy, Survives, upTo, behind, Replacing, nodesAfter, ownsAfter}
 use Rattle.wire.proofs.Staying.{kept-replaced}
 use Rattle.update.specs.declared.Record.{Record}
 use Rattle.update.specs.declared.Open.the-variants.{Load, Replacement}
-use Rattle.update.specs.Records.{isOpen, isLoad, beyond, shut, opened}
+use Rattle.update.specs.Records.{isLoad, beyond, shut, opened}
 use Rattle.update.specs.Memories.{Memory, nodesOf, ownsOf, filled, loaded, belowPoint, arranged, replaced}
 use Rattle.update.specs.Refusals.{loadRefusal, replaceRefusal}
 use Rattle.update.specs.Refused.{Leaves}
-use Rattle.update.specs.Within.{Roomy}
 use Rattle.update.specs.Steps.{sownOf}
 use Rattle.update.specs.Calls.{Said, refused, said, Left, unless, Opened, is-open, loadCall, replaceCall}
 use Rattle.update.specs.History.{leaving}
@@ -40,7 +36,7 @@ use Rattle.update.proofs.Within.{short-means, all-open}
 use Rattle.update.proofs.Refusing.{all-exactly, all-leave}
 use Rattle.update.proofs.Leaving.{all-open-within}
 use Rattle.update.proofs.Running.{load-is-kept}
-use Rattle.update.proofs.Filled.{getD-zeros, getD-filled, length-filled, take-filled, behind-filled, length-slots, getD-slots, length-exchanged}
+use Rattle.update.proofs.Filled.{getD-zeros, getD-filled, length-filled, take-filled, behind-filled, length-exchanged}
 use Rattle.update.proofs.Rows.{parts}
 use Rattle.update.proofs.Ready.{tree-equal, tree-sound, circles, Sound, in-rank, Ready, Settled}
 
@@ -132,9 +128,9 @@ arranged-none t ns r k s sets x h = rw h
 -- the buffer has the arranged values at every slot
 values-at : (t ns : List ℕ) (r k s : ℕ) (sets l : List ℕ) (x : ℕ) → at (filled (values t ns r k s sets) l) x ≡ arranged t ns r k s sets x
 values-at t ns r k s sets l x = getD-filled (values t ns r k s sets) l x ∙ elim (decLt x (8 * length ns)) [
-  | yes h ↦ getD-slots (arranged t ns r k s sets) (8 * length ns) x h
+  | yes h ↦ map-at (arranged t ns r k s sets) 0 (8 * length ns) x h
   | no h ↦
-      List·getD-eq-default (values t ns r k s sets) 0 (omega (arith, length-slots (arranged t ns r k s sets) (8 * length ns)))
+      List·getD-eq-default (values t ns r k s sets) 0 (omega (arith, map-long (arranged t ns r k s sets) 0 (8 * length ns)))
       ∙ sym (arranged-none t ns r k s sets x (undeclared t ns x (omega arith)))
 ]
 
@@ -256,7 +252,7 @@ module _ {t ns owns : List ℕ} {r : Record} {m : Memory} (q : Settled t ns owns
   arranged-at l x = values-at t ns′ point old (length new) (m .sets) l x
 
   long-values : length (values t ns′ point old (length new) (m .sets)) ≤ 4096
-  long-values = omega (arith, length-slots (arranged t ns′ point old (length new) (m .sets)) (8 * length ns′), sound .few)
+  long-values = omega (arith, map-long (arranged t ns′ point old (length new) (m .sets)) 0 (8 * length ns′), sound .few)
 
   sown-is : (x : ℕ) → sownOf r′ x ≡ false → sownBy point (length new) x ≡ false
   unfolding opened sownOf belowPoint sownBy

@@ -1,12 +1,11 @@
 -- The three demands over histories. Assumes nothing.
-use mathlib.Core.Path.{_≡_, refl, sym, ap, _∙_, subst}
-use mathlib.Core.Bool.{true, false, true≢false}
+use mathlib.Core.Path.{_≡_, refl, sym, ap, _∙_}
+use mathlib.Core.Bool.{true, false}
 use mathlib.Core.Logic.{⊎-elim}
 use mathlib.Core.List.{List}
-use Prim.Native.Nat.{ℕ, zero, suc, _+_, _≤_, _<_}
+use Prim.Native.Nat.{ℕ, zero, suc, _<_}
 use native.Mathlib.Omega.{arith}
 use lib.ListN.{length, take}
-use Rattle.climb.specs.System.{System}
 use Rattle.climb.specs.Circuit.{evaluationsTo}
 use Rattle.climb.specs.Memory.{at}
 use Rattle.climb.proofs.Lists.{either}
@@ -17,13 +16,13 @@ use Rattle.update.specs.declared.Record.{Record}
 use Rattle.update.specs.declared.Open.the-variants.{Load}
 use Rattle.update.specs.Records.{evaluationsMost, isOpen, beyond, shut, opened}
 use Rattle.update.specs.Memories.{Memory, loaded}
-use Rattle.update.specs.Refusals.{short, heldRefusal, loadRefusal, readRefusal}
+use Rattle.update.specs.Refusals.{heldRefusal, loadRefusal, readRefusal}
 use Rattle.update.specs.Refused.{Leaves}
 use Rattle.update.specs.Steps.{sownOf}
-use Rattle.update.specs.Calls.{Said, refused, said, Left, is-open, unlessRead, loadCall, readCall}
+use Rattle.update.specs.Calls.{Said, refused, said, Left, unlessRead, readCall}
 use Rattle.update.specs.Demands.{wholeOf}
-use Rattle.update.specs.History.{leaving, ranged, Working, begun, Worked, by-run, Opening, loads, History, finishes}
-use Rattle.update.specs.Promises.{Unaltered, EveryCall, Holds, EveryHistory, SameEnd, OneEnd, ComesToDone, AlwaysDone, ColdLoad, EqualsColdLoad, EveryUpdate, NoMoreThanLoad}
+use Rattle.update.specs.History.{Worked, by-run, loads, finishes}
+use Rattle.update.specs.Promises.{Unaltered, EveryCall, EveryHistory, SameEnd, OneEnd, AlwaysDone, EqualsColdLoad, EveryUpdate, NoMoreThanLoad}
 use Rattle.update.proofs.Within.{short-means, all-shut}
 use Rattle.update.proofs.Refusing.{all-exactly, all-leave}
 use Rattle.update.proofs.Ready.{circles, lawful, in-rank, Ready, begins, Settled}
@@ -79,8 +78,16 @@ settled-reads {t} {ns} {owns} {r} {m} q x h = ap (λ (n : ℕ). unlessRead n (at
     within = ap beyond (q .closed) ∙ all-shut true (length ns) .within (q .sound .few)
 
     none : readRefusal t m r x ≡ 0
-    none = all-exactly t m r .read x .by0 .1 (short-means m .1 (q .roomy), (q .sound .table, (within,
-        (ap (λ (k : Record). isOpen (k .«open»)) (q .closed), (ap (λ (k : Record). k .held) (q .closed), (tree, there))))))
+    none = all-exactly t m r .read x .by0 .1 (
+      short-means m .1 (q .roomy),
+      (
+        q .sound .table,
+        (
+          within,
+          (ap (λ (k : Record). isOpen (k .«open»)) (q .closed), (ap (λ (k : Record). k .held) (q .closed), (tree, there))),
+        ),
+      ),
+    )
 
 pub every-history : EveryHistory
 every-history t ns owns r m h =

@@ -1,9 +1,9 @@
 -- What is known of an update just opened, and that it begins as the laws of one update ask. Assumes nothing.
-use mathlib.Core.Path.{_≡_, refl, sym, _∙_}
+use mathlib.Core.Path.{_≡_, refl, sym}
 use mathlib.Core.Bool.{true, false}
 use mathlib.Core.Logic.{⊎-elim}
 use mathlib.Core.List.{List, [], _∷_}
-use Prim.Native.Nat.{ℕ, zero, suc, _+_, _*_, _≤_}
+use Prim.Native.Nat.{ℕ, zero, suc, _≤_}
 use native.Mathlib.Nat.{le-trans}
 use native.Mathlib.Omega.{arith}
 use lib.Dec.{eqb}
@@ -11,12 +11,11 @@ use lib.ListN.{length, getD, take}
 use borrow.Author.Tests.{eqb-true}
 use Rattle.table.specs.Judge.{judgeTable}
 use Rattle.tree.specs.Tree.{judgeNodes, judgeTree}
-use Rattle.circles.specs.Graph.{Graph, Closed}
 use Rattle.circles.specs.Ranked.{ranked}
 use Rattle.circles.specs.Laws as laws
 use Rattle.circles.specs.Laws.{declaredCount}
 use Rattle.circles.proofs.Sequence.{ordered}
-use Rattle.climb.specs.System.{System, graphOf, Lawful, Least}
+use Rattle.climb.specs.System.{graphOf, Lawful, Least}
 use Rattle.climb.specs.Inside.{Small}
 use Rattle.climb.specs.Circuit.{sumTo, circleAt, Ranked, Kept}
 use Rattle.climb.specs.Memory.{at}

@@ -3,7 +3,7 @@ use mathlib.Core.Path.{_≡_, refl, sym, ap, _∙_}
 use mathlib.Core.Bool.{Bool, true, false, cond, not, _&&_}
 use mathlib.Core.Logic.{⊎-elim}
 use mathlib.Core.List.{List}
-use Prim.Native.Nat.{ℕ, zero, suc, _+_, _-_, _*_, _≤_, _<_, zero-le}
+use Prim.Native.Nat.{ℕ, zero, suc, _+_, _-_, _≤_, _<_, zero-le}
 use native.Mathlib.Numerals.{add-one}
 use native.Mathlib.Omega.{arith}
 use lib.Dec.{eqb}
@@ -15,15 +15,14 @@ use Rattle.climb.specs.Circuit.{circleAt, dueOf}
 use Rattle.climb.specs.Memory.{at}
 use Rattle.climb.proofs.Lists.{le-or-lt}
 use Rattle.wire.specs.Instances.{system}
-use Rattle.tree.specs.Tree.{judgeTree}
 use Rattle.update.specs.declared.Record.{Record}
 use Rattle.update.specs.Records.{isOpen, isLoad, beyond}
 use Rattle.update.specs.Memories.{Memory}
-use Rattle.update.specs.Refusals.{short, heldRefusal, stepRefusal}
+use Rattle.update.specs.Refusals.{heldRefusal, stepRefusal}
 use Rattle.update.specs.Within.{Roomy}
-use Rattle.update.specs.Steps.{sownOf, survives, changedOf, dueFrom, doneMade, Outcome, round, done, Made, stepOf, onward, Ending, paused, finished, Ran, runOf}
+use Rattle.update.specs.Steps.{sownOf, survives, changedOf, dueFrom, doneMade, Outcome, round, done, stepOf, onward, Ending, paused, finished, Ran, runOf}
 use Rattle.update.specs.Calls.{Said, said, Left, Ranged, unless, systemOf, circlesOf, withSets, stepLeft, runLeft, stepCall, runCall}
-use Rattle.update.specs.Demands.{ranOf, wholeOf, recordAt, Stands, Finishes}
+use Rattle.update.specs.Demands.{ranOf, wholeOf}
 use Rattle.update.specs.History.{leaving, ranged, Working, begun, stepped, ran, Worked, by-step, by-run}
 use Rattle.update.proofs.Within.{short-means}
 use Rattle.update.proofs.Refusing.{all-exactly}

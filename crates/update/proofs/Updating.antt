@@ -1,9 +1,9 @@
 -- An update from its opening to done, as the sets at done have it: its circles, their climbs, and every round in its turn. Assumes nothing.
 use mathlib.Core.Path.{_≡_, refl, sym, ap, _∙_, subst}
-use mathlib.Core.Bool.{Bool, true, false, cond, true≢false}
+use mathlib.Core.Bool.{Bool, true, false, true≢false}
 use mathlib.Core.Logic.{⊎-elim}
 use mathlib.Core.List.{List, [], _∷_}
-use Prim.Native.Nat.{ℕ, zero, suc, _+_, _*_, _≤_, _<_, zero-le}
+use Prim.Native.Nat.{ℕ, _+_, _*_, _≤_, _<_}
 use native.Mathlib.Nat.{eq-or-lt-of-le}
 use native.Mathlib.Omega.{arith}
 use lib.Dec.{eqb}
@@ -11,10 +11,9 @@ use lib.ListN.{length, getD, List·getD-eq-default}
 use borrow.Author.Tests.{eq-eqb}
 use lib.Seq.{ext-getD}
 use Rattle.circles.specs.Ranked.{member}
-use Rattle.climb.specs.System.{Assignment, System, weight, Least}
-use Rattle.climb.specs.Inside.{Small, Agree}
-use Rattle.climb.specs.Climb.{stage, roundsOf}
-use Rattle.climb.specs.Circuit.{sumTo, circleAt, dueOf, afterOf, workedOf, roundsAt, circlesTo, roundsTo, evaluationsTo}
+use Rattle.climb.specs.System.{Assignment, System}
+use Rattle.climb.specs.Climb.{stage}
+use Rattle.climb.specs.Circuit.{sumTo, circleAt, dueOf, afterOf, circlesTo, roundsTo, evaluationsTo}
 use Rattle.climb.specs.Laws.{Climbs, Alike}
 use Rattle.climb.specs.Memory.{at}
 use Rattle.climb.proofs.Lists.{either, le-or-lt}
@@ -23,13 +22,12 @@ use Rattle.climb.proofs.Stages.{stage-out}
 use Rattle.climb.proofs.Rounds.{climbs, lone-once, agree-alike}
 use Rattle.climb.proofs.Restriction.{climbs-again}
 use Rattle.climb.proofs.Sums.{sum-le}
-use Rattle.climb.proofs.Working.{after-small}
-use Rattle.climb.proofs.Finishing.{agree-final, lawful-circles}
+use Rattle.climb.proofs.Finishing.{agree-final}
 use Rattle.wire.specs.Instances.{system}
 use Rattle.update.specs.declared.Record.{Record}
 use Rattle.update.specs.Memories.{Memory}
-use Rattle.update.specs.Steps.{sownOf, changedOf, Outcome, round, done, Made, stepOf, onward, Ending, paused, finished, Ran, runOf}
-use Rattle.update.specs.Calls.{Said, said, Left, withSets, stepLeft, runLeft, stepCall, runCall}
+use Rattle.update.specs.Steps.{sownOf, changedOf, Outcome, round, done, stepOf, onward, Ending, paused, finished, Ran, runOf}
+use Rattle.update.specs.Calls.{Said, said, Left, withSets, stepCall, runCall}
 use Rattle.update.specs.Demands.{ranOf, wholeOf, Scheduled, Finishes, Below}
 use Rattle.update.specs.History.{leaving, ranged, Working, begun, ran, Worked}
 use Rattle.update.specs.Promises.{overDue, Turn, Climbing, Makes, WorkedOn, Update, dueBy, climbBy}

@@ -7,8 +7,8 @@ use Rattle.wire.specs.Laws.{Words}
 use Rattle.wire.specs.Replaced.{nodesAfter, ownsAfter}
 use Rattle.update.specs.declared.Record.{Record}
 use Rattle.update.specs.Memories.{Memory}
-use Rattle.update.specs.Steps.{Outcome, round, done, Ending, paused, finished}
-use Rattle.update.specs.Calls.{Said, said, Left, Ranged, Opened, is-open, loadCall, replaceCall, stepCall, runCall}
+use Rattle.update.specs.Steps.{round, done, Ending, paused, finished}
+use Rattle.update.specs.Calls.{Said, said, Left, Ranged, is-open, loadCall, replaceCall, stepCall, runCall}
 
 -- a call that answers a, and leaves r in the record and m in the memory
 abbrev pub leaving : {A : Type 0} → A → Record → Memory → Left (Said A)
