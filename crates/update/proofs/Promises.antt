@@ -14,15 +14,15 @@ use Rattle.climb.proofs.Finishing.{all-limits, lawful-circles}
 use Rattle.wire.specs.Instances.{declared, system}
 use Rattle.update.specs.declared.Record.{Record}
 use Rattle.update.specs.declared.Open.the-variants.{Load}
-use Rattle.update.specs.Records.{evaluationsMost, isOpen, beyond, shut, opened}
+use Rattle.update.specs.Records.{evaluationsMost, isOpen, beyond, shut, emptyRecord, opened}
 use Rattle.update.specs.Memories.{Memory, loaded}
 use Rattle.update.specs.Refusals.{heldRefusal, loadRefusal, readRefusal}
 use Rattle.update.specs.Refused.{Leaves}
 use Rattle.update.specs.Steps.{sownOf}
 use Rattle.update.specs.Calls.{Said, refused, said, Left, unlessRead, readCall}
 use Rattle.update.specs.Demands.{wholeOf}
-use Rattle.update.specs.History.{Worked, by-run, loads, finishes}
-use Rattle.update.specs.Promises.{Unaltered, EveryCall, EveryHistory, SameEnd, OneEnd, AlwaysDone, EqualsColdLoad, EveryUpdate, NoMoreThanLoad}
+use Rattle.update.specs.History.{begun, Worked, by-run, loads, finishes}
+use Rattle.update.specs.Promises.{Unaltered, EveryCall, EveryHistory, SameEnd, OneEnd, AlwaysDone, EveryTree, EqualsColdLoad, EveryUpdate, NoMoreThanLoad}
 use Rattle.update.proofs.Within.{short-means, all-shut}
 use Rattle.update.proofs.Refusing.{all-exactly, all-leave}
 use Rattle.update.proofs.Ready.{circles, lawful, in-rank, Ready, begins, Settled}
@@ -138,6 +138,17 @@ equals-cold-load t ns owns r r₁ m m₁ h s b o =
       load = l;
       same = λ w. same-end q (settled-history (finishes (loads m₁ r₁ ns owns (q .sound .words) (q .sound .owned) l) w));
     }
+
+no-update : (beyond emptyRecord ≡ false) × (isOpen (emptyRecord .«open») ≡ false)
+unfolding emptyRecord
+no-update = (all-shut false 0 .within (omega arith), all-shut false 0 .closed)
+
+pub every-tree : EveryTree
+every-tree t ns owns m w o table tree few s =
+    let e : loadRefusal t m emptyRecord ns owns ≡ 0 = all-exactly t m emptyRecord .load ns owns .by0 .1 (s, (table, (no-update .0, (no-update .1, (few, tree))))) in
+    let p = loads m emptyRecord ns owns w o (load-is t m emptyRecord ns owns e) in
+    let d = always-done t ns owns _ _ _ _ 0 p begun evaluationsMost (omega arith) in
+    (d .next, d .memory, d .history)
 
 -- ---- demand 3
 

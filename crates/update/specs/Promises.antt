@@ -12,7 +12,10 @@ use Rattle.climb.specs.Climb.{stage, roundsOf}
 use Rattle.climb.specs.Circuit.{sumTo, circleAt, dueOf}
 use Rattle.climb.specs.Laws.{Takes}
 use Rattle.climb.specs.Memory.{at}
+use Rattle.table.specs.Judge.{judgeTable}
+use Rattle.tree.specs.Tree.{judgeTree}
 use Rattle.wire.specs.Instances.{declared, system}
+use Rattle.wire.specs.Laws.{Words}
 use Rattle.update.specs.declared.Record.{Record}
 use Rattle.update.specs.Records.{evaluationsMost, isOpen, beyond, shut}
 use Rattle.update.specs.Memories.{Memory, nodesOf, ownsOf}
@@ -85,6 +88,11 @@ pub record ComesToDone (t ns owns : List ℕ) (r : Record) (m : Memory) (budget 
 abbrev pub AlwaysDone : Type 0
 AlwaysDone = (t ns owns : List ℕ) (r r′ : Record) (m m′ : Memory) (n : ℕ) → Opening t ns owns r m → Working t r m n r′ m′ → (budget : ℕ) → evaluationsMost ≤ budget
     → ComesToDone t ns owns r′ m′ budget
+
+-- so every sound tree is the end of a history, from any memory that is long enough
+abbrev pub EveryTree : Type 0
+EveryTree = (t ns owns : List ℕ) (m : Memory) → Words t → Words owns → judgeTable t ≡ 0 → judgeTree t ns owns 0 ≡ 0 → length ns ≤ 512 → short m ≡ false
+    → (r′ : Record) × (m′ : Memory) × History t ns owns r′ m′
 
 -- "So it equals what a cold load of that tree ends with.": into other memory, of enough room, with a record that has no update open
 pub record ColdLoad (t ns owns : List ℕ) (r : Record) (m : Memory) (r₁ : Record) (m₁ : Memory) : Type 0 where
