@@ -136,7 +136,7 @@ values-at t ns r k s sets l x = getD-filled (values t ns r k s sets) l x ∙ eli
 
 arranged-small : (t ns : List ℕ) (r k s : ℕ) (sets : List ℕ) → Small (at sets) → Small (arranged t ns r k s sets)
 unfolding arranged
-arranged-small t ns r k s sets h x = cond-lt (declared t ns x) (λ d. cond-lt (belowPoint r s (nodeOf x)) (λ b. omega arith) (λ b. h (8 * formerly r k s (nodeOf x) + indexOf x))) (λ d. omega arith)
+arranged-small t ns r k s sets h x = cond-lt (declared t ns x) (λ d. cond-lt (belowPoint r s (nodeOf x)) (λ b. omega arith) (λ b. h _)) (λ d. omega arith)
 
 -- a surviving instance has the value that it had
 arranged-kept : (t ns : List ℕ) (r k s : ℕ) (sets : List ℕ) (x : ℕ) → declared t ns x ≡ true → Survives r s x → arranged t ns r k s sets x ≡ at sets (formerSlot r k s x)

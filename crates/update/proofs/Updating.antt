@@ -281,6 +281,7 @@ module _ {t ns owns : List ℕ} {r : Record} {m : Memory} (q : Ready t ns owns r
       let o = one-schedule S R sown b in
       let g = numbers (sym h ∙ F .ending) in
       record {
+        starts = λ x. refl;
         exactly = λ i. due-exactly S sown b v (C i);
         worked = λ i. (is-worked i, worked-due i);
         climbing = climbing;

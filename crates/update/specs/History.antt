@@ -18,7 +18,8 @@ leaving a r m = record { answer = said a; next = r; memory = m }
 abbrev pub ranged : ℕ → Ending → Ranged
 ranged n e = record { rounds = n; ending = e }
 
--- any row of steps and runs, of any budgets, from the record r₀ and the memory m₀ on: none is refused and none is done, and they make n rounds
+-- any row of steps and runs, of any budgets, from the record r₀ and the memory m₀ on: none is refused and none is done, and they make n rounds.
+-- Readings and refused calls alter nothing, so a row need not name them
 pub data Working (t : List ℕ) (r₀ : Record) (m₀ : Memory) : ℕ → Record → Memory → Type 0 where
   begun : Working t r₀ m₀ 0 r₀ m₀
   stepped : {n least k size : ℕ} {closed : Bool} {r r′ : Record} {m m′ : Memory} → Working t r₀ m₀ n r m

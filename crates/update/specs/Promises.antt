@@ -153,6 +153,8 @@ pub record WorkedOn (t : List ℕ) (r : Record) (m : Memory) (C : List ℕ) : Ty
 -- before values, due i says whether circle i is due, and climb i are the rounds of its climb, both by the sets at done
 pub record Update (t : List ℕ) (S : System) (R : List (List ℕ)) (before : Assignment) (due : ℕ → Bool) (climb : ℕ → ℕ)
     (r : Record) (m : Memory) (circles evaluations changed : ℕ) (r′ : Record) (m′ : Memory) : Type 0 where
+  -- "The values so arranged are copied as the "before" values."
+  pub starts : (x : ℕ) → at (m .sets) x ≡ before x
   -- "the circles worked on are exactly those with a sown instance and those with an argument outside themselves whose value changed"
   pub exactly : (i : ℕ) → (due i ≡ true) ↔ Due S (sownOf r) before (at (m′ .sets)) (circleAt R i)
   pub worked : (i : ℕ) → (due i ≡ true) ↔ WorkedOn t r m (circleAt R i)
