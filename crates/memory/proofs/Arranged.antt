@@ -1,12 +1,13 @@
 -- The sets after a replacement: moved with their nodes, empty below the point, empty where nothing is declared. Assumes nothing.
-use mathlib.Core.Path.{_≡_, ap, sym, _∙_}
-use mathlib.Core.Logic.{inr}
-use mathlib.Core.Bool.{cond}
+use mathlib.Core.Path.{_≡_, refl, ap, sym, _∙_}
+use mathlib.Core.Logic.{inl, inr}
+use mathlib.Core.Bool.{Bool, true, false, cond, _&&_}
 use mathlib.Core.List.{List, map}
-use Prim.Native.Nat.{ℕ, _+_, _-_, _*_, _/_, _%_, _≤_, _<_}
+use Prim.Native.Nat.{ℕ, suc, _+_, _-_, _*_, _/_, _%_, _≤_, _<_}
 use native.Mathlib.Decide.{decLt}
 use native.Mathlib.Omega.{arith}
 use borrow.Author.Tests.{lt-ltb, le-ltb, le-leb, lt-leb}
+use lib.Dec.{leb, ltb}
 use lib.ListN.{length, getD, take, replicate, length-replicate, List·getD-eq-default}
 use lib.Seq.{ext-getD, length-take-le, getD-take}
 use Rattle.circles.specs.Ranked.{upFrom}
@@ -14,10 +15,8 @@ use Rattle.tree.specs.Replace.{exchanged, formerly}
 use Rattle.wire.specs.Instances.{nodeOf, indexOf, declared}
 use Rattle.update.specs.Memories.{filled, belowPoint, arranged}
 use Rattle.memory.specs.Cleared.{clearedAt, cleared}
-use Rattle.circles.proofs.Lists.{map-at, map-long}
-use Rattle.update.proofs.Filled.{getD-zeros, getD-filled, length-filled, length-exchanged}
-use Rattle.memory.proofs.Placed.{exchanged-front, exchanged-new, exchanged-rest}
-use Rattle.memory.proofs.Slots.{cleared-in, cleared-out, getD-cleared, length-cleared}
+use Rattle.memory.proofs.Placed.{getD-zeros, getD-filled, length-filled, length-exchanged, exchanged-front, exchanged-new, exchanged-rest}
+use Rattle.memory.proofs.Slots.{length-slots, getD-slots, cleared-in, cleared-out, getD-cleared, length-cleared}
 
 -- the sets of n nodes where those below r, of a part of k nodes, made way for the empty ones of a part of s nodes
 abbrev pub shifted : List ℕ → ℕ → ℕ → ℕ → ℕ → List ℕ
@@ -83,7 +82,7 @@ module _ (l : List ℕ) (n r k s : ℕ) (hk : 0 < k) (hs : 0 < s) (hr : r + k �
 
     result-long : length result ≡ 8 * length ns
     unfolding result
-    result-long = map-long (arranged t ns r k s l) 0 (8 * length ns)
+    result-long = length-slots (arranged t ns r k s l) (8 * length ns)
 
     slot : (x : ℕ) → clearedAt t ns 0 (length ns) ready x ≡ getD result x 0
     unfolding ready result arranged
@@ -91,7 +90,7 @@ module _ (l : List ℕ) (n r k s : ℕ) (hk : 0 < k) (hs : 0 < s) (hr : r + k �
       | yes p ↦
           cleared-in t ns 0 (length ns) ready x (omega arith) p
           ∙ ap (λ v. cond (declared t ns x) v 0) (getD-filled (shifted l n r k s) l x ∙ values x (omega arith))
-          ∙ sym (map-at (arranged t ns r k s l) 0 (8 * length ns) x (omega arith))
+          ∙ sym (getD-slots (arranged t ns r k s l) (8 * length ns) x (omega arith))
       | no p ↦
           cleared-out t ns 0 (length ns) ready x (inr (omega arith))
           ∙ getD-filled (shifted l n r k s) l x

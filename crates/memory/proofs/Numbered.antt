@@ -1,5 +1,5 @@
 -- Every node's production number is below the count: in a judged tree, and in a tree made of two such. Assumes nothing.
-use mathlib.Core.Path.{_≡_, refl, sym, subst}
+use mathlib.Core.Path.{_≡_, refl, ap, sym, _∙_, subst}
 use mathlib.Core.Bool.{Bool, true, false, cond}
 use mathlib.Core.List.{List, [], _∷_, _++_}
 use Prim.Native.Nat.{ℕ, zero, suc, _+_, _-_, _≤_, _<_}
@@ -13,8 +13,7 @@ use Rattle.table.specs.Words.{productionCount, leftOf, children}
 use Rattle.tree.specs.Tree.{judgeNodes}
 use Rattle.tree.specs.Replace.{exchanged}
 use Rattle.memory.specs.Numbered.{Numbered}
-use Rattle.update.proofs.Filled.{length-exchanged}
-use Rattle.memory.proofs.Placed.{exchanged-front, exchanged-new, exchanged-rest}
+use Rattle.memory.proofs.Placed.{length-exchanged, exchanged-front, exchanged-new, exchanged-rest}
 
 -- the number of a first node with a bad production is 6, so not 0
 first-below : (b : Bool) (n : ℕ) → cond b n 6 ≡ 0 → b ≡ true

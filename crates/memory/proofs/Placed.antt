@@ -8,6 +8,7 @@ use lib.ListN.{length, getD, take, drop, replicate, length-replicate, length-dro
 use lib.Seq.{paste, length-paste, take-paste, drop-paste, length-take-le, take-all, take-add, take-at, drop-at, take-take, take-nil, getD-take, getD-drop, getD-append-add}
 use Rattle.tree.specs.Replace.{exchanged}
 use Rattle.update.specs.Memories.{filled}
+pub use Rattle.update.proofs.Filled.{getD-zeros, getD-filled, length-filled, take-filled, length-exchanged}
 
 module _ {A : Type 0} where
   pub drop-take : (i j : ℕ) (l : List A) → drop i (take (i + j) l) ≡ take j (drop i l)
