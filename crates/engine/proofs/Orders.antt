@@ -23,6 +23,7 @@ use Rattle.update.specs.Records.{isOpen, beyond}
 use Rattle.update.specs.Memories.{Memory, nodesOf}
 use Rattle.update.specs.Refusals.{firstRefusal, when, short, heldRefusal, loadRefusal, passes, replaceRefusal, stepRefusal, readRefusal}
 use Rattle.update.proofs.Within.{short-means, beyond-means}
+pub use Rattle.update.proofs.Ready.{tree-equal, tree-sound}
 use Rattle.wire.specs.Instances.{declared}
 use Rattle.engine.specs.Order.{groundNumbers, loadNumbers, heldNumbers, lookNumbers, pointNumbers, partNumbers, goingNumbers, Grounded, Holding, Going}
 
@@ -213,17 +214,6 @@ module _ (t : List ℕ) (r : Record) (ns owns : List ℕ) (o : isOpen (r .«open
 pub record Loads (ns owns : List ℕ) : Type 0 where
   pub few : length ns ≤ 512
   pub equal : length owns ≡ length ns
-
-equal-of : (b : Bool) (n : ℕ) → cond b n 7 ≡ 0 → b ≡ true
-equal-of true n h = refl
-equal-of false n h = absurd (omega arith)
-
-pub tree-equal : (t ns owns : List ℕ) (s : ℕ) → judgeTree t ns owns s ≡ 0 → length owns ≡ length ns
-unfolding judgeTree
-tree-equal t ns owns s h = sym (eqb-true (length ns) (length owns) (equal-of (eqb (length ns) (length owns)) (judgeNodes t ns (s ∷ [])) h))
-
-pub tree-sound : (t ns owns : List ℕ) (s : ℕ) → judgeTree t ns owns s ≡ 0 → judgeNodes t ns (s ∷ []) ≡ 0
-tree-sound t ns owns s h = tree-judged t ns owns s (sym (tree-equal t ns owns s h)) ∙ h
 
 pub loads : (t : List ℕ) (r : Record) (ns owns : List ℕ) → firstRefusal (loadNumbers t r ns owns) ≡ 0 → Loads ns owns
 unfolding first

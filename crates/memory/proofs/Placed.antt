@@ -1,14 +1,14 @@
 -- A part of a buffer that makes way for another, and zeros behind: what moving, writing and clearing come to. Assumes nothing.
-use mathlib.Core.Path.{_≡_, refl, ap, sym, _∙_}
+use mathlib.Core.Path.{_≡_, ap, sym, _∙_}
 use mathlib.Core.List.{List, [], _∷_, _++_, append-assoc, append-nil}
 use Prim.Native.Nat.{ℕ, zero, suc, _+_, _-_, _≤_, _<_}
 use native.Mathlib.Nat.{suc-add, zero-add}
 use native.Mathlib.Omega.{arith}
-use lib.ListN.{length, getD, take, drop, replicate, length-append, length-replicate, length-drop, drop-of-length-le, List·getD-append, List·getD-eq-default, getD-replicate}
-use lib.Seq.{paste, length-paste, take-paste, drop-paste, length-take-le, take-all, take-add, take-at, drop-at, take-append-le, take-take, drop-nil, take-nil, getD-take, getD-drop, getD-append-add}
-use native.Mathlib.Decide.{decLt}
+use lib.ListN.{length, getD, take, drop, replicate, length-replicate, length-drop, drop-of-length-le, List·getD-append}
+use lib.Seq.{paste, length-paste, take-paste, drop-paste, length-take-le, take-all, take-add, take-at, drop-at, take-take, take-nil, getD-take, getD-drop, getD-append-add}
 use Rattle.tree.specs.Replace.{exchanged}
 use Rattle.update.specs.Memories.{filled}
+pub use Rattle.update.proofs.Filled.{getD-zeros, getD-filled, length-filled, take-filled, length-exchanged}
 
 module _ {A : Type 0} where
   pub drop-take : (i j : ℕ) (l : List A) → drop i (take (i + j) l) ≡ take j (drop i l)
@@ -16,40 +16,7 @@ module _ {A : Type 0} where
   drop-take (suc i) j [] = ap (drop (suc i)) (take-nil (suc i + j)) ∙ sym (take-nil j)
   drop-take (suc i) j (x ∷ l) = ap (λ (k : ℕ). drop (suc i) (take k (x ∷ l))) (suc-add i j) ∙ drop-take i j l
 
-  pub length-exchanged : (l : List A) (r k : ℕ) (new : List A) → r + k ≤ length l → length (exchanged l r k new) ≡ length l - k + length new
-  unfolding exchanged
-  length-exchanged l r k new h =
-      let a = length-append (take r l) (new ++ drop (r + k) l) in
-      let b = length-append new (drop (r + k) l) in
-      omega (arith, length-take-le r l (omega arith), length-drop (r + k) l)
-
 -- ---- element by element
-
-pub getD-zeros : (n i : ℕ) → getD {A = ℕ} (replicate n 0) i 0 ≡ 0
-getD-zeros zero i = refl
-getD-zeros (suc n) zero = refl
-getD-zeros (suc n) (suc i) = getD-zeros n i
-
-pub getD-filled : (xs l : List ℕ) (x : ℕ) → getD (filled xs l) x 0 ≡ getD xs x 0
-unfolding filled
-getD-filled xs l x = elim (decLt x (length xs)) [
-  | yes h ↦ List·getD-append xs (replicate (length l - length xs) 0) 0 x h
-  | no h ↦
-      let e : length xs + (x - length xs) ≡ x = omega arith in
-      ap (λ (k : ℕ). getD (xs ++ replicate (length l - length xs) 0) k 0) (sym e)
-      ∙ getD-append-add xs (replicate (length l - length xs) 0) (x - length xs) 0
-      ∙ getD-zeros (length l - length xs) (x - length xs)
-      ∙ sym (List·getD-eq-default xs 0 (omega arith))
-]
-
-pub length-filled : (xs l : List ℕ) → length xs ≤ length l → length (filled xs l) ≡ length l
-unfolding filled
-length-filled xs l h = omega (arith, length-append xs (replicate (length l - length xs) 0), length-replicate {A = ℕ} (length l - length xs) 0)
-
--- the front of a filled buffer
-pub take-filled : (xs l : List ℕ) (n : ℕ) → length xs ≡ n → take n (filled xs l) ≡ xs
-unfolding filled
-take-filled xs l n e = take-at xs (replicate (length l - length xs) 0) n e
 
 -- a buffer of the same length is filled alike
 pub filled-alike : (xs l m : List ℕ) → length l ≡ length m → filled xs l ≡ filled xs m

@@ -7,3 +7,10 @@ pub mod Meaning
 pub mod Stepping
 pub mod Scheduling
 pub mod Running
+pub mod Filled
+pub mod Ready
+pub mod Rows
+pub mod Openings
+pub mod Histories
+pub mod Updating
+pub mod Promises

@@ -8,3 +8,5 @@ pub mod Within
 pub mod Demands
 pub mod Meaning
 pub mod Cases
+pub mod History
+pub mod Promises

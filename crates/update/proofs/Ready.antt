@@ -1,0 +1,117 @@
+-- What is known of an update just opened, and that it begins as the laws of one update ask. Assumes nothing.
+use mathlib.Core.Path.{_≡_, refl, sym}
+use mathlib.Core.Bool.{true, false}
+use mathlib.Core.Logic.{⊎-elim}
+use mathlib.Core.List.{List, [], _∷_}
+use Prim.Native.Nat.{ℕ, zero, suc, _≤_}
+use native.Mathlib.Nat.{le-trans}
+use native.Mathlib.Omega.{arith}
+use lib.Dec.{eqb}
+use lib.ListN.{length, getD, take}
+use borrow.Author.Tests.{eqb-true}
+use Rattle.table.specs.Judge.{judgeTable}
+use Rattle.tree.specs.Tree.{judgeNodes, judgeTree}
+use Rattle.circles.specs.Ranked.{ranked}
+use Rattle.circles.specs.Laws as laws
+use Rattle.circles.specs.Laws.{declaredCount}
+use Rattle.circles.proofs.Sequence.{ordered}
+use Rattle.climb.specs.System.{graphOf, Lawful, Least}
+use Rattle.climb.specs.Inside.{Small}
+use Rattle.climb.specs.Circuit.{sumTo, circleAt, Ranked, Kept}
+use Rattle.climb.specs.Memory.{at}
+use Rattle.climb.proofs.Lists.{either}
+use Rattle.wire.specs.Instances.{declared, system}
+use Rattle.wire.specs.Laws.{Words}
+use Rattle.wire.proofs.Lawful.{tree-lawful, few-instances}
+use Rattle.update.specs.declared.Record.{Record}
+use Rattle.update.specs.Records.{isOpen, beyond, shut}
+use Rattle.update.specs.Memories.{Memory}
+use Rattle.update.specs.Within.{Roomy, Fresh}
+use Rattle.update.specs.Steps.{sownOf}
+use Rattle.update.specs.Demands.{Begins}
+
+-- ---- a tree that passes
+
+pub tree-equal : (t ns owns : List ℕ) (s : ℕ) → judgeTree t ns owns s ≡ 0 → length owns ≡ length ns
+unfolding judgeTree
+tree-equal t ns owns s h = ⊎-elim
+    (λ (e : eqb (length ns) (length owns) ≡ true). sym (eqb-true (length ns) (length owns) e))
+    (λ (e : eqb (length ns) (length owns) ≡ false). let z : 7 ≡ 0 = rw e at h in absurd (omega arith))
+    (either (eqb (length ns) (length owns)))
+
+pub tree-sound : (t ns owns : List ℕ) (s : ℕ) → judgeTree t ns owns s ≡ 0 → judgeNodes t ns (s ∷ []) ≡ 0
+unfolding judgeTree
+tree-sound t ns owns s h = ⊎-elim
+    (λ (e : eqb (length ns) (length owns) ≡ true). rw e at h)
+    (λ (e : eqb (length ns) (length owns) ≡ false). let z : 7 ≡ 0 = rw e at h in absurd (omega arith))
+    (either (eqb (length ns) (length owns)))
+
+-- the circles of its system, by rank
+abbrev pub circles : List ℕ → List ℕ → List ℕ → List (List ℕ)
+circles t ns owns = ranked (graphOf (system t ns owns))
+
+sums-same : (f : ℕ → ℕ) (n : ℕ) → sumTo f n ≡ laws.sumTo f n
+unfolding sumTo
+sums-same f zero = refl
+sums-same f (suc n) = rw (sums-same f n)
+
+-- a sound table and a sound tree with their words
+pub record Sound (t ns owns : List ℕ) : Type 0 where
+  pub words : Words t
+  pub owned : Words owns
+  pub table : judgeTable t ≡ 0
+  pub tree : judgeTree t ns owns 0 ≡ 0
+  pub few : length ns ≤ 512
+
+module _ {t ns owns : List ℕ} (q : Sound t ns owns) where
+  pub lawful : Lawful (system t ns owns)
+  lawful = tree-lawful t ns owns (q .table) (tree-sound t ns owns 0 (q .tree)) (q .words) (q .owned)
+
+  counted : declaredCount (graphOf (system t ns owns)) ≤ 4092
+  unfolding declaredCount
+  counted = few-instances t ns (q .table) (tree-sound t ns owns 0 (q .tree)) (q .few)
+
+  pub in-rank : Ranked (system t ns owns) (circles t ns owns)
+  in-rank =
+      let o = ordered (graphOf (system t ns owns)) (record { bound = lawful .bound; closed = lawful .closed }) (omega (arith, q .few)) in
+      record {
+        apart = o .apart;
+        reads = o .reads;
+        declared = o .declared;
+        covers = o .covers;
+        count = le-trans (o .count) counted;
+        total = omega (arith, sums-same (λ i. length (circleAt (circles t ns owns) i)) (length (circles t ns owns)), o .total, counted);
+      }
+
+-- an update just opened: sets and before values are the same
+pub record Ready (t ns owns : List ℕ) (r : Record) (m : Memory) : Type 0 where
+  pub sound : Sound t ns owns
+  pub count : r .nodes ≡ length ns
+  pub held : r .held ≡ true
+  pub isopen : isOpen (r .«open») ≡ true
+  pub fresh : Fresh r
+  pub within : beyond r ≡ false
+  pub roomy : Roomy m
+  pub nodes : take (length ns) (m .productions) ≡ ns
+  pub owns′ : take (length ns) (m .owns) ≡ owns
+  pub behind : (i : ℕ) → length ns ≤ i → (getD (m .productions) i 0 ≡ 0) × (getD (m .owns) i 0 ≡ 0)
+  pub before : at (m .before) ≡ at (m .sets)
+  pub small : Small (at (m .sets))
+  pub empty : (x : ℕ) → declared t ns x ≡ false → at (m .sets) x ≡ 0
+  pub kept : Kept (system t ns owns) (circles t ns owns) (sownOf r) (at (m .sets))
+
+pub begins : {t ns owns : List ℕ} {r : Record} {m : Memory} → Ready t ns owns r m → Begins (system t ns owns) (circles t ns owns) r (m .sets)
+begins q = record { lawful = lawful (q .sound); ranked = in-rank (q .sound); fresh = q .fresh; small = q .small; room = omega (arith, q .sound .few, q .roomy .sets) }
+
+-- a finished update: the sets are the least
+pub record Settled (t ns owns : List ℕ) (r : Record) (m : Memory) : Type 0 where
+  pub sound : Sound t ns owns
+  pub closed : r ≡ shut true (length ns)
+  pub roomy : Roomy m
+  pub nodes : take (length ns) (m .productions) ≡ ns
+  pub owns′ : take (length ns) (m .owns) ≡ owns
+  pub behind : (i : ℕ) → length ns ≤ i → (getD (m .productions) i 0 ≡ 0) × (getD (m .owns) i 0 ≡ 0)
+  pub small : Small (at (m .sets))
+  pub empty : (x : ℕ) → declared t ns x ≡ false → at (m .sets) x ≡ 0
+  pub emptied : (x : ℕ) → declared t ns x ≡ false → at (m .before) x ≡ 0
+  pub least : Least (system t ns owns) (at (m .sets))
