@@ -1,3 +1,5 @@
 pub mod Printed
 pub mod Windows
 pub mod Shifts
+pub mod Many
+pub mod Opened
