@@ -3,3 +3,4 @@ pub mod Windows
 pub mod Shifts
 pub mod Many
 pub mod Opened
+pub mod Coming

@@ -19,6 +19,7 @@ use Rattle.lines.proofs.Window.{Alike, num-alike, line-ahead}
 use Rattle.lines.proofs.Rows as rows
 use Rattle.lines.proofs.Rows.{line-says, end-says}
 use Rattle.frames.specs.Frames.{wrongLength, sized, childAt, dumpOf, headerOf, symbolOf, productionOf, equationOf, nodeOf, loadOf, replaceOf, kindOf, frameOf, stepOf, frameAt, lineAfter}
+use Rattle.frames.specs.Read.{typeOf}
 use Rattle.frames.specs.declared.Frame.{Frame}
 use Rattle.frames.specs.declared.Frame.the-variants.{Header, Symbol, Production, Equation, Node, Load, Replace, Dump, Refused, Over}
 use Rattle.frames.specs.declared.Step.{Step}
@@ -163,25 +164,64 @@ module _ (s t : List ℕ) (a b n line : ℕ) (h : Alike s t a b n) where
 
 -- ---- what a whole line is
 
--- no line, or a frame behind which the text goes on; whatever text that is
-pub data Met (w : List ℕ) (line : ℕ) : Type 0 where
-  broken : frameAt w 0 line .frame ≡ Refused why.Line line → ((u : List ℕ) → frameAt (w ++ u) 0 line .frame ≡ Refused why.Line line) → Met w line
-  framed : (f : Frame) → frameAt w 0 line .frame ≡ f → ((u : List ℕ) → frameAt (w ++ u) 0 line ≡ record { frame = f; place = length w; line = lineAfter line }) → Met w line
+-- its frame, whatever text stands behind it; and where the frame has a type the text goes on behind the line
+pub record Front (w : List ℕ) (line : ℕ) (f : Frame) : Type 0 where
+  pub frame : (u : List ℕ) → frameAt (w ++ u) 0 line .frame ≡ f
+  pub place : 0 < typeOf f → (u : List ℕ) → frameAt (w ++ u) 0 line .place ≡ length w + 0
+  pub next : 0 < typeOf f → (u : List ℕ) → frameAt (w ++ u) 0 line .line ≡ lineAfter line
+  pub some : f ≡ Over → ⊥
 
-pub met : (w : List ℕ) (line : ℕ) → Whole w → Met w line
+-- a line's frame is not the text's end
+isFrame : Frame → Bool
+isFrame (Header a b) = true
+isFrame (Symbol a b) = true
+isFrame (Production a b c) = true
+isFrame (Equation a b c d) = true
+isFrame (Node a b) = true
+isFrame (Load a) = true
+isFrame (Replace a b) = true
+isFrame Dump = true
+isFrame (Refused a b) = true
+isFrame Over = false
+
+of-two : (b : Bool) (x y : Frame) → isFrame x ≡ true → isFrame y ≡ true → isFrame (cond b x y) ≡ true
+of-two true x y g h = g
+of-two false x y g h = h
+
+is-frame : (s : List ℕ) (place n line : ℕ) → isFrame (frameOf s place n line) ≡ true
+unfolding isFrame frameOf kindOf headerOf symbolOf productionOf equationOf nodeOf loadOf replaceOf dumpOf
+is-frame s place n line =
+    let t : ℕ = numAt 2 s place in
+    of-two (eqb t 1) _ _ (of-two (eqb n 6) _ _ refl refl) (of-two (eqb t 2) _ _ (of-two (eqb n 6) _ _ refl refl)
+    (of-two (eqb t 3) _ _ (of-two (ltb n 6) _ _ refl (of-two (eqb n (6 + 2 * numAt 2 s (place + 4))) _ _ refl refl)) (of-two (eqb t 4) _ _ (of-two (eqb n 28) _ _ refl refl)
+    (of-two (eqb t 5) _ _ (of-two (eqb n 20) _ _ refl refl) (of-two (eqb t 6) _ _ (of-two (eqb n 6) _ _ refl refl)
+    (of-two (eqb t 7) _ _ (of-two (eqb n 10) _ _ refl refl) (of-two (eqb t 8) _ _ (of-two (eqb n 2) _ _ refl refl) refl)))))))
+
+not-over : (s : List ℕ) (place n line : ℕ) → frameOf s place n line ≡ Over → ⊥
+unfolding isFrame
+not-over s place n line e = let f : _≡_ {A = Bool} true false = sym (is-frame s place n line) ∙ ap isFrame e in let z : _≡_ {A = ℕ} 0 1 = cc in omega arith
+
+pub front : (w : List ℕ) (line : ℕ) → Whole w → Front w line (frameAt w 0 line .frame)
 unfolding frameAt
-met w line h = by-line (lineAt w 0) refl
+front w line h = by-line (lineAt w 0) refl
   where
-    by-line : (l : Line) → lineAt w 0 ≡ l → Met w line
+    by-line : (l : Line) → lineAt w 0 ≡ l → Front w line (stepOf w 0 line l .frame)
     by-line (Digits n) e =
         let s = line-says w 0 n e in
-        let k : 0 + (n + 1) ≡ length w = zero-add (n + 1) ∙ line-length w n h e in
-        framed (frameOf w 0 n line) (rw e refl) (λ u.
-        let g : lineAt (w ++ u) 0 ≡ Digits n = line-first w u h ∙ e in
-        let at : Alike (w ++ u) w 0 0 n = λ j i. let y : 0 + j ≡ j = zero-add j in rw y (List·getD-append w u 0 j (omega arith)) in
-        let f = frame-same (w ++ u) w 0 0 n line at (s .few) in
-        rw g (λ i. record { frame = f i; place = k i; line = lineAfter line }))
-    by-line Bad e = broken (rw e) (λ u. let g : lineAt (w ++ u) 0 ≡ Bad = line-first w u h ∙ e in rw g)
+        let k : 0 + (n + 1) ≡ length w + 0 = omega (arith, line-length w n h e) in
+        let g : (u : List ℕ) → lineAt (w ++ u) 0 ≡ Digits n = λ u. line-first w u h ∙ e in
+        record {
+          frame = λ u. rw (g u) (frame-same (w ++ u) w 0 0 n line (λ j i. let y : 0 + j ≡ j = zero-add j in rw y (List·getD-append w u 0 j (omega arith))) (s .few));
+          place = λ y u. rw (g u) k;
+          next = λ y u. rw (g u);
+          some = not-over w 0 n line;
+        }
+    by-line Bad e = record {
+      frame = λ u. let g : lineAt (w ++ u) 0 ≡ Bad = line-first w u h ∙ e in rw g;
+      place = λ y. absurd (omega arith);
+      next = λ y. absurd (omega arith);
+      some = λ x. let z : _≡_ {A = ℕ} 0 1 = cc in omega arith;
+    }
     by-line End e = absurd (omega (arith, end-says w 0 e, h .some))
 
 -- ---- what a line is that has only begun
