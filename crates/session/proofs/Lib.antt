@@ -4,3 +4,4 @@ pub mod Shifts
 pub mod Many
 pub mod Opened
 pub mod Coming
+pub mod Owing

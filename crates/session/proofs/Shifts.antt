@@ -113,7 +113,7 @@ pub broken-taken : (t : List ℕ) (x : Expected) (line : ℕ) → takenAt t x (R
 unfolding takenAt
 broken-taken t x line = rw (no-type x)
 
-taken-type : (t : List ℕ) (x : Expected) (f : Frame) (line : ℕ) (y : Expected) → takenAt t x f line ≡ Next y → 0 < typeOf f
+pub taken-type : (t : List ℕ) (x : Expected) (f : Frame) (line : ℕ) (y : Expected) → takenAt t x f line ≡ Next y → 0 < typeOf f
 taken-type t x f line y h = let e = eqb-true (typeOf f) (typeAt x) (led t x f line y h .type) in omega (arith, some-type x)
 
 -- a turn, and the end of the turns
@@ -137,7 +137,7 @@ module _ (t : List ℕ) (x : Expected) (s : List ℕ) (place line : ℕ) where
   read-over (suc n) h l = read-turn n h ∙ rw (none-left s place line l, over-taken t x line)
 
 module _ (p s : List ℕ) where
-  abbrev Moves : ℕ → ℕ → Type 0
+  abbrev pub Moves : ℕ → ℕ → Type 0
   Moves n k = (t : List ℕ) (x : Expected) (place line : ℕ) → length s ≤ n + place → length s ≤ k + place
       → readOn n t x (p ++ s) (length p + place) line ≡ movedTable (length p) (readOn k t x s place line)
 
@@ -170,7 +170,7 @@ module _ (p s : List ℕ) where
 
 -- ---- commands
 
-abbrev Going-on : Type 0
+abbrev pub Going-on : Type 0
 Going-on = ℕ → ℕ → Record → Memory → List ℕ
 
 with-moved : (k : ℕ) (x : Nodes) (call : List ℕ → List ℕ → Told) (go on : Going-on)
@@ -181,16 +181,16 @@ with-moved k (bad refusal line) call go on e = refl
 
 module _ (p s t : List ℕ) (go on : Going-on) where
   -- what goes on from a place on is the same
-  abbrev Same-from : ℕ → Type 0
+  abbrev pub Same-from : ℕ → Type 0
   Same-from place = (q line : ℕ) (r : Record) (m : Memory) → place ≤ q → go (length p + q) line r m ≡ on q line r m
 
-  nodes-moved : (count place next : ℕ) (call : List ℕ → List ℕ → Told) → Same-from place
+  pub nodes-moved : (count place next : ℕ) (call : List ℕ → List ℕ → Told) → Same-from place
       → withNodes (nodesAt count (p ++ s) (length p + place) next) call go ≡ withNodes (nodesAt count s place next) call on
   nodes-moved count place next call e =
       rw (nodes-shift count p s place next)
       (with-moved (length p) (nodesAt count s place next) call go on (λ ps os q line h r m. e q line r m (omega (arith, nodes-forth count s place next ps os q line h .behind))))
 
-  command-moved : (f : Frame) (line place next : ℕ) (r : Record) (m : Memory) → (0 < typeOf f → Same-from place)
+  pub command-moved : (f : Frame) (line place next : ℕ) (r : Record) (m : Memory) → (0 < typeOf f → Same-from place)
       → command (p ++ s) t f line (length p + place) next r m go ≡ command s t f line place next r m on
   command-moved (Header a b) line place next r m e = refl
   command-moved (Symbol a b) line place next r m e = refl
