@@ -19,6 +19,7 @@ use Rattle.session.specs.Session.{Told, withNodes}
 use Rattle.session.specs.Owed.{orderCall, heard, behind}
 use Rattle.session.specs.Hearing.{keptAt}
 use Rattle.session.specs.declared.Order.{Order}
+use Rattle.session.proofs.Shifts.{movedNodes}
 use Rattle.session.proofs.Many.{order-many}
 
 pub heard-none : (count : ℕ) (xs : List ℕ) → heard count 0 xs ≡ []
@@ -118,3 +119,7 @@ with-node call go a b a′ b′ p o (bad refusal line) e = refl
 pub behind-none : (x : Nodes) → behind [] [] x ≡ x
 behind-none (good qs ws place line) = refl
 behind-none (bad refusal line) = refl
+
+pub behind-moved : (a b : List ℕ) (p o k : ℕ) (x : Nodes) → behind a b (before p o (movedNodes k x)) ≡ movedNodes k (behind a b (before p o x))
+behind-moved a b p o k (good qs ws place line) = refl
+behind-moved a b p o k (bad refusal line) = refl

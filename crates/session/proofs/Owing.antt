@@ -42,9 +42,9 @@ use Rattle.session.specs.declared.Order.the-variants.{Load, Replace}
 use Rattle.session.specs.declared.Mode.{Mode}
 use Rattle.session.specs.declared.Mode.the-variants.{Table, Command, Nodes as NodesOf, Working, Stopped}
 use Rattle.session.proofs.Windows.{Front, front, none-left, begun}
-use Rattle.session.proofs.Shifts.{command-moved, onward-shift, nodes-shift, nodes-moved, movedNodes, movedTable, table-shift, read-shift, read-shut, read-none, read-turn, taken-type, broken-taken, command-over}
+use Rattle.session.proofs.Shifts.{command-moved, with-moved, onward-shift, nodes-shift, nodes-moved, movedNodes, movedTable, table-shift, read-shift, read-shut, read-none, read-turn, taken-type, broken-taken, command-over}
 use Rattle.session.proofs.Opened.{empty-holds, order-keeps}
-use Rattle.session.proofs.Coming.{heard-none, order-next, order-last, with-node, behind-none}
+use Rattle.session.proofs.Coming.{heard-none, order-next, order-last, with-node, behind-none, behind-moved}
 
 -- what a line prints, and what is owed behind it
 abbrev owes : Heard → ℕ → List ℕ → List ℕ
@@ -184,3 +184,75 @@ module _ (t ps os : List ℕ) (m : Memory) (r : Record) (line : ℕ) (w : List �
           owing = λ u. table-first u ∙ rw e (sym (append-nil (refusalText (numberOf refusal) at))) ∙ ap (λ (a : List ℕ). refusalText (numberOf refusal) at ++ a) (sym (nothing-owed (wordsAfter t x f) ps os m emptyRecord (lineAfter line) u));
           sound = tt;
         }
+
+  -- ---- a node of a command is waited for
+
+  module _ (order : Order) (count taken at : ℕ) (few : taken < count) (long : 513 ≤ length ps) (owns-long : 513 ≤ length os) where
+    abbrev mode : Mode
+    mode = NodesOf order count taken at
+
+    abbrev carried : List ℕ → List ℕ → Told
+    carried qs ws = openedThen at t (orderCall order t m r qs ws)
+
+    abbrev front-part : Nodes → Nodes
+    front-part = behind (heard count taken ps) (heard count taken os)
+
+    -- the nodes that are to come behind the line
+    abbrev rest : ℕ
+    rest = count - (taken + 1)
+
+    nodes-first : (f : Frame) → Front w line f → (u : List ℕ) → owed mode t ps os m r line (w ++ u)
+        ≡ withNodes (front-part (nodeThen f line (nodesAt rest (w ++ u) (frameAt (w ++ u) 0 line .place) (frameAt (w ++ u) 0 line .line)))) carried (onward (w ++ u) t)
+    unfolding owed nodesAt
+    nodes-first f z u = let k : count - taken ≡ suc rest = omega arith in rw (k, z .frame u)
+
+    module _ (p o : ℕ) (z : Front w line (frame.Node p o)) where
+      node-line : (u : List ℕ) → owed mode t ps os m r line (w ++ u) ≡ withNodes (front-part (before p o (nodesAt rest u 0 (lineAfter line)))) carried (onward u t)
+      node-line u =
+          nodes-first (frame.Node p o) z u
+          ∙ rw (z .place (omega arith) u, z .next (omega arith) u, nodes-shift rest w u 0 (lineAfter line), behind-moved (heard count taken ps) (heard count taken os) p o (length w) (nodesAt rest u 0 (lineAfter line)))
+          (with-moved (length w) (front-part (before p o (nodesAt rest u 0 (lineAfter line)))) carried (onward (w ++ u) t) (onward u t) (λ qs ws q next e r′ m′.
+          onward-shift w u t (length (w ++ u)) q next r′ m′ (omega (arith, length-append w u))))
+
+      abbrev kept : List ℕ
+      kept = keptAt taken p ps
+
+      abbrev ownKept : List ℕ
+      ownKept = keptAt taken o os
+
+      more-owed : taken + 1 < count → (u : List ℕ) → owed mode t ps os m r line (w ++ u) ≡ owed (NodesOf order count (taken + 1) at) t kept ownKept m r (lineAfter line) u
+      unfolding owed
+      more-owed h u =
+          node-line u
+          ∙ with-node carried (onward u t) (heard count taken ps) (heard count taken os) (heard count (taken + 1) kept) (heard count (taken + 1) ownKept) p o (nodesAt rest u 0 (lineAfter line))
+          (λ qs ws q next e. ap (openedThen at t) (order-next t m r order count taken p o ps os few long owns-long qs ws (omega (arith, nodes-forth rest u 0 (lineAfter line) qs ws q next e .count))))
+
+      last-owed : taken + 1 ≡ count → (u : List ℕ) → owed mode t ps os m r line (w ++ u) ≡ owes (called t kept ownKept m r order count at) (lineAfter line) u
+      unfolding called nodesAt
+      last-owed h u =
+          let k : rest ≡ 0 = omega arith in
+          node-line u
+          ∙ rw (k, order-last t m r order count taken p o ps os few long owns-long h)
+          (opened-owed t kept ownKept m r at (lineAfter line) u (orderCall order t m r (take (min count 513) kept) (take (min count 513) ownKept)))
+
+      called-sound : Holding t m r → SoundBy (called t kept ownKept m r order count at)
+      unfolding called
+      called-sound h = order-keeps t m r h kept ownKept at order (take (min count 513) kept) (take (min count 513) ownKept)
+
+      node-pays : Holding t m r → (b : Bool) → ltb (taken + 1) count ≡ b
+          → Pays mode t ps os m r line w (cond b (waiting t kept ownKept m r (NodesOf order count (taken + 1) at)) (called t kept ownKept m r order count at))
+      node-pays h true e = let l : taken + 1 < count = ltb-true (taken + 1) count e in record { owing = more-owed l; sound = (h, l) }
+      node-pays h false e = record { owing = last-owed (omega (arith, ltb-false (taken + 1) count e)); sound = called-sound h }
+
+    noded-pays : Holding t m r → (f : Frame) → Front w line f → Pays mode t ps os m r line w (noded order count taken at f line t ps os m r)
+    unfolding noded
+    noded-pays h (frame.Header a b) z = ends mode 14 line (nodes-first (frame.Header a b) z)
+    noded-pays h (frame.Symbol a b) z = ends mode 14 line (nodes-first (frame.Symbol a b) z)
+    noded-pays h (frame.Production a b c) z = ends mode 14 line (nodes-first (frame.Production a b c) z)
+    noded-pays h (frame.Equation a b c d) z = ends mode 14 line (nodes-first (frame.Equation a b c d) z)
+    noded-pays h (frame.Node p o) z = node-pays p o z h (ltb (taken + 1) count) refl
+    noded-pays h (frame.Load a) z = ends mode 14 line (nodes-first (frame.Load a) z)
+    noded-pays h (frame.Replace a b) z = ends mode 14 line (nodes-first (frame.Replace a b) z)
+    noded-pays h frame.Dump z = ends mode 14 line (nodes-first frame.Dump z)
+    noded-pays h (frame.Refused refusal own) z = ends mode (numberOf refusal) own (nodes-first (frame.Refused refusal own) z)
+    noded-pays h frame.Over z = absurd (z .some refl)

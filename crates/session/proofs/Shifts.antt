@@ -173,7 +173,7 @@ module _ (p s : List ℕ) where
 abbrev pub Going-on : Type 0
 Going-on = ℕ → ℕ → Record → Memory → List ℕ
 
-with-moved : (k : ℕ) (x : Nodes) (call : List ℕ → List ℕ → Told) (go on : Going-on)
+pub with-moved : (k : ℕ) (x : Nodes) (call : List ℕ → List ℕ → Told) (go on : Going-on)
     → ((ps os : List ℕ) (place line : ℕ) → x ≡ good ps os place line → (r : Record) (m : Memory) → go (k + place) line r m ≡ on place line r m)
     → withNodes (movedNodes k x) call go ≡ withNodes x call on
 with-moved k (good ps os place line) call go on e = ap (λ (z : List ℕ). call ps os .text ++ z) (e ps os place line refl (call ps os .next) (call ps os .memory))
