@@ -1,9 +1,9 @@
 -- The nodes of a command, as they come: those that are kept, and what the command makes of them. Assumes nothing.
-use mathlib.Core.Path.{_≡_, refl, ap, sym, _∙_}
+use mathlib.Core.Path.{_≡_, refl, ap, _∙_}
 use mathlib.Core.Bool.{Bool, true, false, cond}
 use mathlib.Core.List.{List, [], _∷_, _++_, append-assoc}
 use mathlib.Core.Logic.{⊎-elim}
-use Prim.Native.Nat.{ℕ, zero, suc, _+_, _-_, _≤_, _<_, min}
+use Prim.Native.Nat.{ℕ, _+_, _≤_, _<_, min}
 use native.Mathlib.Omega.{arith}
 use native.Mathlib.Numerals.{add-one}
 use borrow.Author.Tests.{lt-ltb, le-leb, leb-true}
@@ -30,7 +30,7 @@ heard-none count xs = by-test (leb count 512)
     by-test true = refl
     by-test false = refl
 
-pub heard-long : (count taken : ℕ) (xs : List ℕ) → taken ≤ count → 513 ≤ length xs → length (heard count taken xs) ≡ taken
+heard-long : (count taken : ℕ) (xs : List ℕ) → taken ≤ count → 513 ≤ length xs → length (heard count taken xs) ≡ taken
 unfolding heard
 heard-long count taken xs few long = by-test (leb count 512) refl
   where
@@ -47,7 +47,7 @@ kept-long taken x xs = by-test (ltb taken 513)
 
 module _ (count taken : ℕ) (few : taken < count) (xs : List ℕ) (long : 513 ≤ length xs) where
   -- one node more, where all are kept
-  pub heard-next : (x : ℕ) → count ≤ 512 → heard count (taken + 1) (keptAt taken x xs) ≡ heard count taken xs ++ (x ∷ [])
+  heard-next : (x : ℕ) → count ≤ 512 → heard count (taken + 1) (keptAt taken x xs) ≡ heard count taken xs ++ (x ∷ [])
   unfolding heard
   heard-next x h =
       let l : taken < 513 = omega arith in

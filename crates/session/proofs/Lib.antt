@@ -5,3 +5,4 @@ pub mod Many
 pub mod Opened
 pub mod Coming
 pub mod Owing
+pub mod Ending

@@ -1,14 +1,14 @@
 -- What a command leaves: an update that is at work on a sound tree, or all as it was. Assumes nothing.
 use mathlib.Core.Path.{_≡_, refl, ap, sym, _∙_}
-use mathlib.Core.Bool.{Bool, true, false, true≢false}
-use mathlib.Core.List.{List, [], _∷_, _++_, map}
+use mathlib.Core.Bool.{true, false, true≢false}
+use mathlib.Core.List.{List, map}
 use Prim.Native.Nat.{ℕ, zero, suc, _+_, _-_, _*_, _≤_, _<_}
 use native.Mathlib.Omega.{arith}
-use lib.ListN.{length, getD, take, length-replicate}
+use lib.ListN.{length, getD, length-replicate}
 use lib.Seq.{length-take-le}
 use Rattle.table.specs.Words.{leftOf}
 use Rattle.table.specs.Judge.{judgeTable}
-use Rattle.tree.specs.Tree.{judgeNodes, judgeTree}
+use Rattle.tree.specs.Tree.{judgeTree}
 use Rattle.tree.specs.Replace.{exchanged, part}
 use Rattle.tree.proofs.Replace.{replacement}
 use Rattle.circles.specs.Ranked.{upFrom}
@@ -16,15 +16,15 @@ use Rattle.memory.proofs.Placed.{length-exchanged, length-filled, take-filled}
 use Rattle.memory.proofs.Slots.{length-slots}
 use Rattle.update.specs.declared.Record.{Record}
 use Rattle.update.specs.declared.Open.the-variants as open-by
-use Rattle.update.specs.Records.{isOpen, beyond, opened, shut, emptyRecord}
-use Rattle.update.specs.Memories.{Memory, nodesOf, ownsOf, filled, loaded, arranged, replaced}
+use Rattle.update.specs.Records.{opened, shut, emptyRecord}
+use Rattle.update.specs.Memories.{Memory, nodesOf, ownsOf, loaded, arranged, replaced}
 use Rattle.update.specs.Refusals.{loadRefusal, replaceRefusal}
-use Rattle.update.specs.Calls.{Said, refused, said, Left, Opened, is-open, unless, loadCall, replaceCall}
-use Rattle.update.specs.Within.{Roomy, WithinLimits}
+use Rattle.update.specs.Calls.{Said, said, Left, Opened, is-open, unless, loadCall, replaceCall}
+use Rattle.update.specs.Within.{Roomy}
 use Rattle.update.proofs.Within.{short-means, beyond-means, all-shut}
 use Rattle.update.proofs.Refusing.{all-exactly}
 use Rattle.update.proofs.Leaving.{all-open-within}
-use Rattle.engine.specs.Order.{Grounded, Holding, Going}
+use Rattle.engine.specs.Order.{Holding, Going}
 use Rattle.engine.proofs.Orders.{tree-judged, tree-equal, tree-sound}
 use Rattle.session.specs.Owed.{orderCall, Sound}
 use Rattle.session.specs.Hearing.{Heard, openedBy}

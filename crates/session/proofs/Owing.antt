@@ -1,17 +1,13 @@
--- What a line does to what is owed, what is owed where the text ends, and what is owed at first. Assumes nothing.
+-- What a line does to what is owed: by what is waited for, and by the line's frame. Assumes nothing.
 use mathlib.Core.Path.{_≡_, refl, ap, sym, _∙_}
 use mathlib.Core.Bool.{Bool, true, false, cond, true≢false}
-use mathlib.Core.List.{List, [], _∷_, _++_, append-nil}
-use mathlib.Core.Logic.{⊎-elim}
+use mathlib.Core.List.{List, [], _++_, append-nil}
 use Prim.Native.Nat.{ℕ, zero, suc, _+_, _-_, _≤_, _<_, min}
 use native.Mathlib.Omega.{arith}
-use borrow.Author.Tests.{ltb-true, ltb-false, lt-ltb}
-use lib.Dec.{ltb, eqb}
-use lib.ListN.{length, take, replicate, length-append}
+use borrow.Author.Tests.{ltb-true, ltb-false}
+use lib.Dec.{ltb}
+use lib.ListN.{length, take, length-append}
 use Rattle.refusal.specs.Numbers.{numberOf}
-use Rattle.refusal.specs.declared.Refusal.{Refusal}
-use Rattle.refusal.specs.declared.Refusal.the-variants as why
-use Rattle.lines.proofs.Values.{lt-or-ge}
 use Rattle.update.specs.declared.Record.{Record}
 use Rattle.update.specs.Records.{emptyRecord}
 use Rattle.update.specs.Memories.{Memory}
@@ -21,9 +17,8 @@ use Rattle.engine.specs.Order.{Holding}
 use Rattle.frames.specs.Frames.{frameAt, lineAfter}
 use Rattle.frames.specs.Walk.{isOn}
 use Rattle.frames.specs.Read.{Sofar, typeOf, takenAt, wordsAfter}
-use Rattle.frames.specs.Reading as table
-use Rattle.frames.specs.Reading.{Reading, after, readOn, readingAt}
-use Rattle.frames.specs.Planting.{Nodes, good, bad, before, nodeThen, nodesAt}
+use Rattle.frames.specs.Reading.{after, readOn}
+use Rattle.frames.specs.Planting.{Nodes, before, nodeThen, nodesAt}
 use Rattle.frames.specs.Out.{refusalText}
 use Rattle.frames.specs.declared.Frame.{Frame}
 use Rattle.frames.specs.declared.Frame.the-variants as frame
@@ -33,16 +28,16 @@ use Rattle.frames.specs.declared.Taken.{Taken}
 use Rattle.frames.specs.declared.Taken.the-variants.{Next, Stopped as StoppedAt}
 use Rattle.frames.proofs.Sofar.{goes}
 use Rattle.frames.proofs.Trees.{nodes-forth}
-use Rattle.session.specs.Session.{Told, andOn, withNodes, openedThen, dumpTold, command, commandsFrom, session, afterTable, ownMemory}
-use Rattle.session.specs.Owed.{commands, onward, orderCall, heard, behind, tableThen, owed, Sound, Begun, Whole}
-use Rattle.session.specs.Hearing.{Heard, stopped, strange, waiting, openedBy, called, ordered, commanded, modeOf, tabled, keptAt, noded, hearing}
-use Rattle.session.specs.Laws.{listens, Pays, LinePays, insideText, betweenText, endText, EndPays, AllOwed}
+use Rattle.session.specs.Session.{Told, andOn, withNodes, openedThen, dumpTold, command, commandsFrom}
+use Rattle.session.specs.Owed.{commands, onward, orderCall, heard, behind, tableThen, owed, Sound}
+use Rattle.session.specs.Hearing.{Heard, stopped, waiting, openedBy, called, ordered, commanded, modeOf, tabled, keptAt, noded, hearing}
+use Rattle.session.specs.Laws.{Pays, LinePays}
 use Rattle.session.specs.declared.Order.{Order}
 use Rattle.session.specs.declared.Order.the-variants.{Load, Replace}
 use Rattle.session.specs.declared.Mode.{Mode}
 use Rattle.session.specs.declared.Mode.the-variants.{Table, Command, Nodes as NodesOf, Working, Stopped}
-use Rattle.session.proofs.Windows.{Front, front, none-left, begun}
-use Rattle.session.proofs.Shifts.{command-moved, with-moved, onward-shift, nodes-shift, nodes-moved, movedNodes, movedTable, table-shift, read-shift, read-shut, read-none, read-turn, taken-type, broken-taken, command-over}
+use Rattle.session.proofs.Windows.{Front, front}
+use Rattle.session.proofs.Shifts.{command-moved, with-moved, onward-shift, nodes-shift, table-shift, read-shift, read-shut, read-turn, taken-type}
 use Rattle.session.proofs.Opened.{empty-holds, order-keeps}
 use Rattle.session.proofs.Coming.{heard-none, order-next, order-last, with-node, behind-none, behind-moved}
 
@@ -256,3 +251,15 @@ module _ (t ps os : List ℕ) (m : Memory) (r : Record) (line : ℕ) (w : List �
     noded-pays h frame.Dump z = ends mode 14 line (nodes-first frame.Dump z)
     noded-pays h (frame.Refused refusal own) z = ends mode (numberOf refusal) own (nodes-first (frame.Refused refusal own) z)
     noded-pays h frame.Over z = absurd (z .some refl)
+
+-- ---- a line, by what is waited for
+
+pub line-pays : LinePays
+unfolding hearing
+line-pays (Table x) t ps os m r line w on sound room size long owns-long h =
+    tabled-pays t ps os m r line w (h .some) x (sound .1) (frameAt w 0 line .frame) (front w line h) (sound .0) room
+line-pays Command t ps os m r line w on sound room size long owns-long h = commanded-pays t ps os m r line w (h .some) sound (frameAt w 0 line .frame) (front w line h)
+line-pays (NodesOf order count taken at) t ps os m r line w on sound room size long owns-long h =
+    noded-pays t ps os m r line w (h .some) order count taken at (sound .1) long owns-long (sound .0) (frameAt w 0 line .frame) (front w line h)
+line-pays (Working n) t ps os m r line w on sound room size long owns-long h = absurd (true≢false (sym on))
+line-pays Stopped t ps os m r line w on sound room size long owns-long h = record { owing = λ u. nothing-owed t ps os m r line (w ++ u) ∙ sym (nothing-owed t ps os m r (lineAfter line) u); sound = tt }

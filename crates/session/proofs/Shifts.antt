@@ -1,8 +1,8 @@
 -- A text that stands behind another one: nodes, tables and commands are read there as they are without it, and from any number of turns on that
 -- is as large as the bytes that are left nothing depends on that number. Assumes nothing.
 use mathlib.Core.Path.{_≡_, refl, ap, sym, _∙_}
-use mathlib.Core.Bool.{Bool, true, false, cond}
-use mathlib.Core.List.{List, [], _∷_, _++_}
+use mathlib.Core.Bool.{Bool, true, false}
+use mathlib.Core.List.{List, [], _++_}
 use Prim.Native.Nat.{ℕ, zero, suc, _+_, _≤_, _<_}
 use native.Mathlib.Omega.{arith}
 use borrow.Author.Tests.{eqb-true}
@@ -22,7 +22,6 @@ use Rattle.frames.specs.Read.{typeOf, typeAt, takenAt, wordsAfter}
 use Rattle.frames.specs.Reading as table
 use Rattle.frames.specs.Reading.{Reading, after, readOn}
 use Rattle.frames.specs.Planting.{Nodes, good, bad, before, nodeThen, nodesAt}
-use Rattle.frames.specs.Laws.{shifted}
 use Rattle.frames.specs.declared.Frame.{Frame}
 use Rattle.frames.specs.declared.Frame.the-variants.{Header, Symbol, Production, Equation, Node, Load, Replace, Dump, Refused, Over}
 use Rattle.frames.specs.declared.Expected.{Expected}
@@ -33,13 +32,13 @@ use Rattle.frames.specs.declared.Step.{Step}
 use Rattle.frames.proofs.Back.{frame-behind}
 use Rattle.frames.proofs.Trees.{nodes-forth}
 use Rattle.frames.proofs.Sofar.{led}
-use Rattle.session.specs.Session.{Told, andOn, withNodes, openedThen, dumpTold, command, commandsFrom}
+use Rattle.session.specs.Session.{Told, withNodes, openedThen, dumpTold, command, commandsFrom}
 use Rattle.session.specs.Owed.{tableThen}
 use Rattle.session.proofs.Windows.{none-left}
 
 -- ---- a frame that has a type moves on
 
-pub frame-on : (s : List ℕ) (place line : ℕ) → 0 < typeOf (frameAt s place line .frame) → place < frameAt s place line .place
+frame-on : (s : List ℕ) (place line : ℕ) → 0 < typeOf (frameAt s place line .frame) → place < frameAt s place line .place
 unfolding frameAt
 frame-on s place line h = by-line (lineAt s place) h
   where
@@ -105,7 +104,7 @@ some-type (AtEquation p q k) = omega arith
 some-type Ended = omega arith
 
 -- the end of the text is no frame of a table, and a broken line is none
-pub over-taken : (t : List ℕ) (x : Expected) (line : ℕ) → takenAt t x Over line ≡ Stopped why.Frame line
+over-taken : (t : List ℕ) (x : Expected) (line : ℕ) → takenAt t x Over line ≡ Stopped why.Frame line
 unfolding takenAt
 over-taken t x line = rw (no-type x)
 
@@ -132,7 +131,7 @@ module _ (t : List ℕ) (x : Expected) (s : List ℕ) (place line : ℕ) where
   unfolding readOn
   read-turn n h = rw h
 
-  pub read-over : (n : ℕ) → isOn x ≡ true → length s ≤ place → readOn n t x s place line ≡ table.stop why.Frame line
+  read-over : (n : ℕ) → isOn x ≡ true → length s ≤ place → readOn n t x s place line ≡ table.stop why.Frame line
   read-over zero h l = read-none h
   read-over (suc n) h l = read-turn n h ∙ rw (none-left s place line l, over-taken t x line)
 
@@ -184,7 +183,7 @@ module _ (p s t : List ℕ) (go on : Going-on) where
   abbrev pub Same-from : ℕ → Type 0
   Same-from place = (q line : ℕ) (r : Record) (m : Memory) → place ≤ q → go (length p + q) line r m ≡ on q line r m
 
-  pub nodes-moved : (count place next : ℕ) (call : List ℕ → List ℕ → Told) → Same-from place
+  nodes-moved : (count place next : ℕ) (call : List ℕ → List ℕ → Told) → Same-from place
       → withNodes (nodesAt count (p ++ s) (length p + place) next) call go ≡ withNodes (nodesAt count s place next) call on
   nodes-moved count place next call e =
       rw (nodes-shift count p s place next)
@@ -205,13 +204,13 @@ module _ (p s t : List ℕ) (go on : Going-on) where
   command-moved (Refused a b) line place next r m e = refl
   command-moved Over line place next r m e = refl
 
-pub command-over : (n : ℕ) (s t : List ℕ) (place line : ℕ) (r : Record) (m : Memory) → length s ≤ place → commandsFrom n s t place line r m ≡ []
+command-over : (n : ℕ) (s t : List ℕ) (place line : ℕ) (r : Record) (m : Memory) → length s ≤ place → commandsFrom n s t place line r m ≡ []
 unfolding commandsFrom
 command-over zero s t place line r m h = refl
 command-over (suc n) s t place line r m h = rw (none-left s place line h)
 
 module _ (p s t : List ℕ) where
-  pub commands-shift : (n k place line : ℕ) (r : Record) (m : Memory) → length s ≤ n + place → length s ≤ k + place
+  commands-shift : (n k place line : ℕ) (r : Record) (m : Memory) → length s ≤ n + place → length s ≤ k + place
       → commandsFrom n (p ++ s) t (length p + place) line r m ≡ commandsFrom k s t place line r m
   unfolding commandsFrom
   commands-shift zero k place line r m h l = sym (command-over k s t place line r m (omega arith))

@@ -1,17 +1,17 @@
 -- One whole line in front of any text: its frame is found without the text behind it, and the text goes on behind it. Assumes nothing.
 use mathlib.Core.Path.{_≡_, refl, ap, sym, _∙_}
 use mathlib.Core.Bool.{Bool, true, false, cond}
-use mathlib.Core.List.{List, [], _∷_, _++_}
+use mathlib.Core.List.{List, _++_}
 use mathlib.Core.Logic.{⊎-elim}
 use Prim.Native.Nat.{ℕ, zero, suc, _+_, _-_, _*_, _≤_, _<_}
 use native.Mathlib.Omega.{arith}
 use native.Mathlib.Nat.{add-zero, zero-add}
 use borrow.Author.Tests.{lt-ltb, eqb-true, ltb-true, ltb-false}
-use lib.Dec.{ltb, eqb, lit≤}
+use lib.Dec.{ltb, eqb}
 use lib.ListN.{length, getD, length-append, List·getD-append}
 use Rattle.refusal.specs.declared.Refusal.the-variants as why
 use Rattle.lines.specs.Hex.{isHex, digitsAt, numAt}
-use Rattle.lines.specs.Text.{lineOf, lineAt}
+use Rattle.lines.specs.Text.{lineAt}
 use Rattle.lines.specs.declared.Line.{Line}
 use Rattle.lines.specs.declared.Line.the-variants.{Digits, Bad, End}
 use Rattle.lines.proofs.Values.{lt-or-ge}
@@ -22,7 +22,6 @@ use Rattle.frames.specs.Frames.{wrongLength, sized, childAt, dumpOf, headerOf, 
 use Rattle.frames.specs.Read.{typeOf}
 use Rattle.frames.specs.declared.Frame.{Frame}
 use Rattle.frames.specs.declared.Frame.the-variants.{Header, Symbol, Production, Equation, Node, Load, Replace, Dump, Refused, Over}
-use Rattle.frames.specs.declared.Step.{Step}
 use Rattle.session.specs.Owed.{Begun, Whole}
 
 -- ---- rows of digits
@@ -42,7 +41,7 @@ module _ (s t : List ℕ) where
       let r = rest k (λ j i. let x : a + 1 + j ≡ a + suc j = omega arith in let y : b + 1 + j ≡ b + suc j = omega arith in rw (x, y) (h (suc j) (omega arith))) g (omega arith) in
       (ap suc (r .0), omega (arith, r .1))
 
-  pub row-same : (m a b : ℕ) → Row m a b
+  row-same : (m a b : ℕ) → Row m a b
   unfolding digitsAt
   row-same zero a b k h e l = absurd (omega arith)
   row-same (suc m) a b k h e l = by-first (isHex (getD s a 0)) refl (row-same m (a + 1) (b + 1))
@@ -76,11 +75,11 @@ module _ (w u : List ℕ) (h : Whole w) where
       let a : 0 < length (w ++ u) = omega (arith, length-append w u) in
       rw (lt-ltb 0 (length w) some, lt-ltb 0 (length (w ++ u)) a, ← r .0, ← f)
 
-  pub line-first : lineAt (w ++ u) 0 ≡ lineAt w 0
+  line-first : lineAt (w ++ u) 0 ≡ lineAt w 0
   line-first = ⊎-elim short-line (λ l. line-ahead w u 0 (omega arith)) (lt-or-ge (length w) 29)
 
 -- its LF is its last byte
-pub line-length : (w : List ℕ) (n : ℕ) → Whole w → lineAt w 0 ≡ Digits n → n + 1 ≡ length w
+line-length : (w : List ℕ) (n : ℕ) → Whole w → lineAt w 0 ≡ Digits n → n + 1 ≡ length w
 line-length w n h e =
     let s = line-says w 0 n e in
     let z : 0 + n ≡ n = zero-add n in

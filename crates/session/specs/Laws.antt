@@ -1,4 +1,4 @@
--- What a line does to what is owed. Proved in proofs/Owing. Assumes nothing.
+-- What a line does to what is owed. Proved in proofs/Owing and proofs/Ending. Assumes nothing.
 use mathlib.Core.Path.{_≡_}
 use mathlib.Core.Bool.{Bool, true, false, cond}
 use mathlib.Core.List.{List, [], _++_}
