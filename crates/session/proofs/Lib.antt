@@ -1,1 +1,8 @@
 pub mod Printed
+pub mod Windows
+pub mod Shifts
+pub mod Many
+pub mod Opened
+pub mod Coming
+pub mod Owing
+pub mod Ending

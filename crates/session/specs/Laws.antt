@@ -1,4 +1,4 @@
--- What a line does to what is owed. Proved in proofs/Owing. Assumes nothing.
+-- What a line does to what is owed. Proved in proofs/Owing and proofs/Ending. Assumes nothing.
 use mathlib.Core.Path.{_≡_}
 use mathlib.Core.Bool.{Bool, true, false, cond}
 use mathlib.Core.List.{List, [], _++_}
@@ -7,6 +7,7 @@ use lib.Dec.{eqb}
 use lib.ListN.{length, replicate}
 use Rattle.update.specs.declared.Record.{Record}
 use Rattle.update.specs.Memories.{Memory}
+use Rattle.update.specs.Within.{Roomy}
 use Rattle.engine.specs.Order.{Holding}
 use Rattle.frames.specs.Frames.{frameAt, lineAfter}
 use Rattle.frames.specs.Out.{refusalText}
@@ -31,9 +32,9 @@ pub record Pays (mode : Mode) (t ps os : List ℕ) (m : Memory) (r : Record) (li
       ≡ h .text ++ owed (h .mode) (h .words) (h .parts) (h .partOwns) (h .memory) (h .next) (lineAfter line) u
   pub sound : Sound (h .mode) (h .words) (h .memory) (h .next)
 
--- for every state that a session comes to, and every whole line; 513 nodes have a place
+-- for every state that a session comes to, with memory that is long enough, and every whole line; 513 nodes have a place
 abbrev pub LinePays : Type 0
-LinePays = (mode : Mode) (t ps os : List ℕ) (m : Memory) (r : Record) (line : ℕ) (w : List ℕ) → listens mode ≡ true → Sound mode t m r → length t ≡ 2657
+LinePays = (mode : Mode) (t ps os : List ℕ) (m : Memory) (r : Record) (line : ℕ) (w : List ℕ) → listens mode ≡ true → Sound mode t m r → Roomy m → length t ≡ 2657
     → 513 ≤ length ps → 513 ≤ length os → Whole w
     → Pays mode t ps os m r line w (hearing mode (frameAt w 0 line .frame) line t ps os m r)
 
