@@ -1,25 +1,33 @@
-// What an update's rounds and a dump print.
+// What an update's rounds print.
 use crate::Mode;
 use crate::Told;
 use engine::prepare;
 use frames::put_done;
-use frames::put_refusal;
 use frames::put_round;
-use frames::put_set;
-use refusal::Refusal;
 use steps::step_in;
-use table::has_set;
-use table::left_of;
 use update::Answer;
-use update::Open;
 use update::Record;
+ghost use mathlib.Core.Path.{_≡_};
+ghost use mathlib.Core.Bool.{cond};
+ghost use Prim.Native.Nat.{_+_, _≤_};
+ghost use lib.ListN.{length};
+ghost use Rattle.update.specs.Calls.{answerSays};
+ghost use Rattle.engine.specs.Lent.{lent};
+ghost use Rattle.engine.specs.Order.{Going};
+ghost use Rattle.engine.specs.Prepared.{Scratch};
+ghost use Rattle.session.specs.Telling.{Printable, AnswerPut, RoundsTold};
 
-fn bit(closed: bool) -> u8 {
+fn bit(closed: bool) -> u8
+    ensures { λ r. ⌜ r ≡ cond closed 1 0 ⌝ }
+{
     if closed { 1 } else { 0 }
 }
 
 // "per round `11` least instance (2), round (3), circle size (2), closed 0 or 1 (1); at done `12` circles (2), evaluations (4), changed (2)".
-fn put_answer(out: &mut [u8], printed: usize, answer: Answer) -> usize {
+fn put_answer(out: &mut [u8], printed: usize, answer: Answer) -> usize
+    requires { ⌜ (printed + 19 ≤ length (now out)) × Printable (answerSays answer) ⌝ }
+    ensures { λ r. ⌜ AnswerPut (answerSays answer) printed (now (out .entry)) r (now (out .exit)) ⌝ }
+{
     match answer {
         Answer::Round {
             least,
@@ -140,7 +148,13 @@ pub fn tell_rounds<'a>(
     values: &mut [u64],
     out: &mut [u8],
     printed: usize,
-) -> Told {
+) -> Told
+    requires { ⌜ Going (now table) (lent (now held) (now «held_owns») (now sets) (now before)) «record» ⌝ }
+    requires { ⌜ Scratch (now a) (now b) (now left) (now rule) (now label) (now members) (now ends) ⌝ }
+    requires { ⌜ (4096 ≤ length (now values)) × (printed ≤ length (now out)) ⌝ }
+    ensures { λ r. ⌜ RoundsTold (now (table .entry)) (lent (now (held .entry)) (now («held_owns» .entry)) (now (sets .entry)) (now (before .entry))) «record» turns printed (now (out .entry)) r (lent (now (held .entry)) (now («held_owns» .entry)) (now (sets .exit)) (now (before .entry))) (now (out .exit)) ⌝ }
+    ensures { λ r. ⌜ Scratch (now (a .exit)) (now (b .exit)) (now (left .exit)) (now (rule .exit)) (now (label .exit)) (now (members .exit)) (now (ends .exit)) × (4096 ≤ length (now (values .exit))) ⌝ }
+{
     let nodes = record.nodes;
     let tree = &held[..nodes];
     let count = prepare(table, tree, a, b, left, rule, label, members, ends);
@@ -165,57 +179,4 @@ pub fn tell_rounds<'a>(
         out,
         printed,
     )
-}
-
-// The sets of a dump (stand-in until the dump crate is there).
-fn put_sets(
-    table: &[u64; 2657],
-    held: &[u8],
-    nodes: usize,
-    sets: &[u64],
-    out: &mut [u8],
-    printed: usize,
-) -> usize {
-    let mut at = printed;
-    let mut x: usize = 0;
-    while x < 8 * nodes {
-        if has_set(table, left_of(table, held[x / 8] as usize), x % 8) {
-            at = put_set(out, at, x as u16, sets[x]);
-        }
-        x += 1;
-    }
-    at
-}
-
-// Why a dump is refused, over a judged table and tree: 10, then 16.
-fn is_open(open: Open) -> bool {
-    match open {
-        Open::Nothing => false,
-        Open::Load => true,
-        Open::Replacement => true,
-    }
-}
-
-// "for a dump `13` instance (2), value (8), rising".
-pub fn tell_sets(
-    table: &[u64; 2657],
-    record: Record,
-    held: &[u8],
-    sets: &[u64],
-    line: u32,
-    out: &mut [u8],
-    printed: usize,
-) -> Told {
-    let at = if is_open(record.open) {
-        put_refusal(out, printed, Refusal::Busy, line)
-    } else if !record.held {
-        put_refusal(out, printed, Refusal::Absent, line)
-    } else {
-        put_sets(table, held, record.nodes, sets, out, printed)
-    };
-    Told {
-        mode: Mode::Command,
-        record: record,
-        printed: at,
-    }
 }
