@@ -1,2 +1,4 @@
 pub mod Printed
 pub mod Answering
+pub mod Stepped
+pub mod Turning
