@@ -1,6 +1,6 @@
 -- Step by step what is left of an update's steps. Assumes nothing.
 use mathlib.Core.Path.{_≡_, refl, sym, ap, _∙_, subst}
-use mathlib.Core.Bool.{Bool, true, false, true≢false}
+use mathlib.Core.Bool.{Bool}
 use mathlib.Core.List.{List, [], _∷_, _++_, append-assoc, append-nil}
 use Prim.Native.Nat.{ℕ, zero, suc, _+_, _-_, _≤_, _<_}
 use native.Mathlib.Omega.{arith}
@@ -9,7 +9,6 @@ use lib.Seq.{sets}
 use types.Run.{OneOf, miss}
 use denote.Enum.Declared.{tagOf}
 use Rattle.lines.proofs.Out.{sets-append}
-use Rattle.climb.specs.System.{System}
 use Rattle.climb.specs.Wired.{wired}
 use Rattle.update.specs.declared.Record.{Record}
 use Rattle.update.specs.declared.Answer.{Answer}
@@ -18,9 +17,9 @@ use Rattle.update.proofs.Answer as A
 use Rattle.update.specs.Records.{isOpen}
 use Rattle.update.specs.Memories.{Memory}
 use Rattle.update.specs.Refusals.{heldRefusal}
-use Rattle.update.specs.Within.{WithinLimits, Roomy}
+use Rattle.update.specs.Within.{WithinLimits}
 use Rattle.update.specs.Steps.{Outcome, round, done, Made, stepOf}
-use Rattle.update.specs.Calls.{Said, refused, said, answerSays, Left, withSets, stepCall}
+use Rattle.update.specs.Calls.{Said, said, answerSays, Left, withSets, stepCall}
 use Rattle.steps.specs.Arranged.{circlesIn}
 use Rattle.steps.specs.Says.{StepSays}
 use Rattle.engine.specs.Lent.{lent, stepped}
@@ -29,11 +28,10 @@ use Rattle.engine.specs.Prepared.{Holds}
 use Rattle.engine.proofs.Stepping.{step-carried}
 use Rattle.session.specs.Session as session
 use Rattle.session.specs.Session.{stepThen, stepsTold, before, outcomeText}
-use Rattle.session.specs.Telling.{AnswerPut, Rests, ended, full, RoundsTold, StepsTold}
-use Rattle.session.specs.declared.Mode.{Mode}
+use Rattle.session.specs.Telling.{AnswerPut, Rests, ended, full, StepsTold}
 use Rattle.session.specs.declared.Mode.the-variants.{Command, Working}
 use Rattle.session.specs.declared.Told.{Told}
-use Rattle.session.proofs.Stepped.{isDone, Keeps, step-keeps}
+use Rattle.session.proofs.Stepped.{isDone, step-keeps}
 
 -- ---- what a step leaves can be worked on, or is held
 
@@ -102,6 +100,9 @@ module _ (t owns : List ℕ) (n : ℕ) (a b left rule label members ends : List 
     pub come : (held heldOwns : List ℕ) → Going t (lent held heldOwns s₀ olds) r₀ → owns ≡ take (r₀ .nodes) heldOwns
         → Holds t (take (r₀ .nodes) held) owns n a b left rule label members ends count → Come held heldOwns still place work s out
 
+  abbrev pub Tells : Told → List ℕ → List ℕ → Type 0
+  Tells told s out = StepsTold t owns n a b left rule label members ends count olds s₀ r₀ turns printed out₀ told s out
+
   pub turn-first : Turn turns printed r₀ s₀ out₀
   turn-first = record { come = λ held heldOwns g o h. record { text = []; whole = refl; shown = refl; behind = omega arith; going = g; nodes = refl } }
 
@@ -122,7 +123,7 @@ module _ (t owns : List ℕ) (n : ℕ) (a b left rule label members ends : List 
   module _ (still place : ℕ) (r : Record) (s out : List ℕ) (v : Turn still place r s out) where
     -- a line has no room
     pub turn-full : place ≤ length out₀ → length out₀ - place < 19 → 0 < still
-        → StepsTold t owns n a b left rule label members ends count olds s₀ r₀ turns printed out₀ (record { mode = Working still; «record» = r; printed = place }) s out
+        → Tells (record { mode = Working still; «record» = r; printed = place }) s out
     turn-full fit less some = record {
       rounds = λ held heldOwns g o h.
           let c = v .come held heldOwns g o h in
@@ -140,7 +141,7 @@ module _ (t owns : List ℕ) (n : ℕ) (a b left rule label members ends : List 
 
     -- the turns are used up
     pub turn-over : place ≤ length out₀ → still ≤ 0
-        → StepsTold t owns n a b left rule label members ends count olds s₀ r₀ turns printed out₀ (record { mode = Command; «record» = r; printed = place }) s out
+        → Tells (record { mode = Command; «record» = r; printed = place }) s out
     turn-over fit none = record {
       rounds = λ held heldOwns g o h.
           let c = v .come held heldOwns g o h in
@@ -198,7 +199,7 @@ module _ (t owns : List ℕ) (n : ℕ) (a b left rule label members ends : List 
       turn-on (Refused q) u put i = let z : _≡_ {A = ℕ} 0 1 = cc (u .answer) in absurd (omega arith)
 
       turn-last : (x y z : ℕ) → place′ ≤ length out₀ → StepSays (madeFrom r s) (Done x y z) d s′ → AnswerPut (said (done x y z)) place out place′ out′
-          → StepsTold t owns n a b left rule label members ends count olds s₀ r₀ turns printed out₀ (record { mode = Command; «record» = d; printed = place′ }) s′ out′
+          → Tells (record { mode = Command; «record» = d; printed = place′ }) s′ out′
       turn-last x y z fit u put = record {
         rounds = λ held heldOwns g o h.
             let c = v .come held heldOwns g o h in
@@ -216,6 +217,6 @@ module _ (t owns : List ℕ) (n : ℕ) (a b left rule label members ends : List 
       }
 
       pub turn-done : (answer : Answer) (x y z : ℕ) → answer ≡ Done x y z → place′ ≤ length out₀ → StepSays (madeFrom r s) answer d s′ → AnswerPut (answerSays answer) place out place′ out′
-          → StepsTold t owns n a b left rule label members ends count olds s₀ r₀ turns printed out₀ (record { mode = Command; «record» = d; printed = place′ }) s′ out′
+          → Tells (record { mode = Command; «record» = d; printed = place′ }) s′ out′
       turn-done answer x y z e fit u put =
           turn-last x y z fit (subst (λ (q : Answer). StepSays (madeFrom r s) q d s′) e u) (subst (λ (q : Answer). AnswerPut (answerSays q) place out place′ out′) e put)

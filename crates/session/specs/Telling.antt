@@ -1,7 +1,7 @@
 -- The rounds of an update, as many as there is room for, and those that are left. Assumes nothing.
 use mathlib.Core.Path.{_≡_}
 use mathlib.Core.List.{List, []}
-use Prim.Native.Nat.{ℕ, suc, _+_, _≤_, _<_, _^_}
+use Prim.Native.Nat.{ℕ, suc, _+_, _<_, _^_}
 use lib.ListN.{length, take}
 use lib.Seq.{sets}
 use Rattle.update.specs.declared.Record.{Record}

@@ -6,7 +6,6 @@ use native.Mathlib.Omega.{arith}
 use lib.ListN.{length, take}
 use lib.Seq.{length-take-le}
 use Rattle.wire.specs.Turns.{Held}
-use Rattle.engine.specs.Prepared.{Scratch}
 use Rattle.engine.proofs.Orders.{tree-sound}
 use Rattle.engine.proofs.Preparing.{prepared-holds, prepared-long}
 use borrow.Author.Needs.{needs}
@@ -67,7 +66,10 @@ tell-rounds-spec =
     let p = c .before .before .before .before .before .before .before .before .before .before .before .before .before .before .before .before .before .before .before .before .before .before .before .before .before .before .before .before .before .before .prepare .ensures in
     let h = prepared-holds (s .args .table .now) (tree s) (owns s) _ _ _ _ _ _ _ _ _ _ _ _ _ _ _ (8 * nodes s) (sound s) (owned s) (slots s) p in
     let l = prepared-long (s .args .table .now) (tree s) _ _ _ _ _ _ _ _ _ _ _ _ _ _ _ (sound s .few) (s .pre .1 .0 .firsts) (s .pre .1 .0 .seconds) p in
-    let f = s .pre .1 .0 in
-    (c .before .before .before .before .before .before .tell-steps .ensures .rounds (s .args .held .now) (s .args .held-owns .now) (s .pre .0) refl h,
-    (record { firsts = l .0; seconds = l .1; lefts = omega (arith, c .before .before .before .before .before .before .before .before .before .before .before .before .before .before .before .before .before .before .before .before .before .before .before .before .before .before .before .before .before .left .given, f .lefts); rules = omega (arith, c .before .before .before .before .before .before .before .before .before .before .before .before .before .before .before .before .before .before .before .before .before .before .before .before .before .before .before .rule .given, f .rules); labels = omega (arith, c .before .before .before .before .before .before .before .before .before .before .before .before .before .before .before .before .before .before .before .before .before .before .before .before .before .label .given, f .labels); listed = omega (arith, c .before .before .before .before .before .before .before .before .before .before .before .before .before .before .before .before .before .before .before .before .before .before .before .members .given, f .listed); ended = omega (arith, c .before .before .before .before .before .before .before .before .before .before .before .before .before .before .before .before .before .before .before .before .before .ends .given, f .ended) },
-    omega (arith, c .before .before .before .values .given, s .pre .1 .1 .0)))))
+    let f = s .pre .1 .0 in (
+      c .before .before .before .before .before .before .tell-steps .ensures .rounds (s .args .held .now) (s .args .held-owns .now) (s .pre .0) refl h,
+      (
+        record { firsts = l .0; seconds = l .1; lefts = omega (arith, c .before .before .before .before .before .before .before .before .before .before .before .before .before .before .before .before .before .before .before .before .before .before .before .before .before .before .before .before .before .left .given, f .lefts); rules = omega (arith, c .before .before .before .before .before .before .before .before .before .before .before .before .before .before .before .before .before .before .before .before .before .before .before .before .before .before .before .rule .given, f .rules); labels = omega (arith, c .before .before .before .before .before .before .before .before .before .before .before .before .before .before .before .before .before .before .before .before .before .before .before .before .before .label .given, f .labels); listed = omega (arith, c .before .before .before .before .before .before .before .before .before .before .before .before .before .before .before .before .before .before .before .before .before .before .before .members .given, f .listed); ended = omega (arith, c .before .before .before .before .before .before .before .before .before .before .before .before .before .before .before .before .before .before .before .before .before .ends .given, f .ended) },
+        omega (arith, c .before .before .before .values .given, s .pre .1 .1 .0),
+      ),
+    )))

@@ -1,16 +1,14 @@
 -- `tell_steps`: what is left of the steps falls line by line. Assumes nothing.
-use mathlib.Core.Path.{_≡_, refl, sym, _∙_, subst}
+use mathlib.Core.Path.{_≡_, refl, sym, subst}
 use mathlib.Core.List.{List}
-use Prim.Native.Nat.{ℕ, _+_, _-_, _≤_, _<_}
+use Prim.Native.Nat.{ℕ, _+_, _≤_, _<_}
 use native.Mathlib.Omega.{arith}
 use lib.ListN.{length}
 use Rattle.climb.specs.Wired.{wired}
-use Rattle.update.specs.declared.Record.{Record}
 use Rattle.update.specs.Within.{WithinLimits}
 use Rattle.update.specs.Steps.{Outcome}
 use Rattle.update.specs.Calls.{Said, answerSays}
 use Rattle.steps.specs.Arranged.{circlesIn}
-use Rattle.steps.specs.Says.{StepSays}
 use Rattle.steps.proofs.Continuing.{step-within, lent-kept}
 use Rattle.session.specs.Telling.{Printable}
 use Rattle.session.proofs.Stepped.{step-fits}
