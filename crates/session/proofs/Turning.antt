@@ -28,7 +28,7 @@ use Rattle.engine.specs.Prepared.{Holds}
 use Rattle.engine.proofs.Stepping.{step-carried}
 use Rattle.session.specs.Session as session
 use Rattle.session.specs.Session.{stepThen, stepsTold, before, outcomeText}
-use Rattle.session.specs.Telling.{AnswerPut, Rests, ended, full, StepsTold}
+use Rattle.session.specs.Telling.{AnswerPut, Rests, ended, full, TurnsTold}
 use Rattle.session.specs.declared.Mode.the-variants.{Command, Working}
 use Rattle.session.specs.declared.Told.{Told}
 use Rattle.session.proofs.Stepped.{isDone, step-keeps}
@@ -101,7 +101,7 @@ module _ (t owns : List ℕ) (n : ℕ) (a b left rule label members ends : List 
         → Holds t (take (r₀ .nodes) held) owns n a b left rule label members ends count → Come held heldOwns still place work s out
 
   abbrev pub Tells : Told → List ℕ → List ℕ → Type 0
-  Tells told s out = StepsTold t owns n a b left rule label members ends count olds s₀ r₀ turns printed out₀ told s out
+  Tells told s out = TurnsTold t owns n a b left rule label members ends count olds s₀ r₀ turns printed out₀ told s out
 
   pub turn-first : Turn turns printed r₀ s₀ out₀
   turn-first = record { come = λ held heldOwns g o h. record { text = []; whole = refl; shown = refl; behind = omega arith; going = g; nodes = refl } }

@@ -54,7 +54,7 @@ pub record RoundsTold (t : List ℕ) (m : Memory) (r : Record) (turns printed : 
   pub rests : Rests t m′ (told .«record») free (told .mode) rest
 
 -- the same of the steps over the arrays, whatever memory they were made from: they hold the system of its tree
-pub record StepsTold (t owns : List ℕ) (n : ℕ) (a b left rule label members ends : List ℕ) (count : ℕ) (olds sets : List ℕ) (r : Record) (turns printed : ℕ)
+pub record TurnsTold (t owns : List ℕ) (n : ℕ) (a b left rule label members ends : List ℕ) (count : ℕ) (olds sets : List ℕ) (r : Record) (turns printed : ℕ)
     (out : List ℕ) (told : Told) (sets′ out′ : List ℕ) : Type 0 where
   pub rounds : (held heldOwns : List ℕ) → Going t (lent held heldOwns sets olds) r → owns ≡ take (r .nodes) heldOwns
       → Holds t (take (r .nodes) held) owns n a b left rule label members ends count

@@ -18,7 +18,7 @@ ghost use Rattle.steps.specs.Arranged.{Circles, Lent};
 ghost use Rattle.engine.specs.Lent.{lent};
 ghost use Rattle.engine.specs.Order.{Going};
 ghost use Rattle.engine.specs.Prepared.{Scratch};
-ghost use Rattle.session.specs.Telling.{Printable, AnswerPut, RoundsTold, StepsTold};
+ghost use Rattle.session.specs.Telling.{Printable, AnswerPut, RoundsTold, TurnsTold};
 
 fn bit(closed: bool) -> u8
     ensures { λ r. ⌜ r ≡ cond closed 1 0 ⌝ }
@@ -86,7 +86,7 @@ fn tell_steps<'a>(
     requires { ⌜ Circles n (now a) (now b) (now label) (now members) (now ends) count ⌝ }
     requires { ⌜ Lent n (now before) (now sets) (now values) ⌝ }
     requires { ⌜ printed ≤ length (now out) ⌝ }
-    ensures { λ r. ⌜ StepsTold (now (table .entry)) (now (owns .entry)) n (now (a .entry)) (now (b .entry)) (now (left .entry)) (now (rule .entry)) (now (label .entry)) (now (members .entry)) (now (ends .entry)) count (now (before .entry)) (now (sets .entry)) «record» turns printed (now (out .entry)) r (now (sets .exit)) (now (out .exit)) ⌝ }
+    ensures { λ r. ⌜ TurnsTold (now (table .entry)) (now (owns .entry)) n (now (a .entry)) (now (b .entry)) (now (left .entry)) (now (rule .entry)) (now (label .entry)) (now (members .entry)) (now (ends .entry)) count (now (before .entry)) (now (sets .entry)) «record» turns printed (now (out .entry)) r (now (sets .exit)) (now (out .exit)) ⌝ }
 {
     let mut work = record;
     let mut at = printed;
