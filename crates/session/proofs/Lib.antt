@@ -6,3 +6,6 @@ pub mod Opened
 pub mod Coming
 pub mod Owing
 pub mod Ending
+pub mod Answering
+pub mod Stepped
+pub mod Turning

@@ -7,19 +7,30 @@ use frames::put_round;
 use steps::step_in;
 use update::Answer;
 use update::Record;
-ghost use Prim.Native.Nat.{_≤_};
+ghost use mathlib.Core.Path.{_≡_};
+ghost use mathlib.Core.Bool.{cond};
+ghost use Prim.Native.Nat.{_+_, _≤_};
 ghost use lib.ListN.{length};
+ghost use Rattle.climb.specs.Wired.{Wiring};
+ghost use Rattle.update.specs.Within.{WithinLimits};
+ghost use Rattle.update.specs.Calls.{answerSays};
+ghost use Rattle.steps.specs.Arranged.{Circles, Lent};
 ghost use Rattle.engine.specs.Lent.{lent};
 ghost use Rattle.engine.specs.Order.{Going};
 ghost use Rattle.engine.specs.Prepared.{Scratch};
-ghost use Rattle.session.specs.Telling.{RoundsTold};
+ghost use Rattle.session.specs.Telling.{Printable, AnswerPut, RoundsTold, TurnsTold};
 
-fn bit(closed: bool) -> u8 {
+fn bit(closed: bool) -> u8
+    ensures { λ r. ⌜ r ≡ cond closed 1 0 ⌝ }
+{
     if closed { 1 } else { 0 }
 }
 
 // "per round `11` least instance (2), round (3), circle size (2), closed 0 or 1 (1); at done `12` circles (2), evaluations (4), changed (2)".
-fn put_answer(out: &mut [u8], printed: usize, answer: Answer) -> usize {
+fn put_answer(out: &mut [u8], printed: usize, answer: Answer) -> usize
+    requires { ⌜ (printed + 19 ≤ length (now out)) × Printable (answerSays answer) ⌝ }
+    ensures { λ r. ⌜ AnswerPut (answerSays answer) printed (now (out .entry)) r (now (out .exit)) ⌝ }
+{
     match answer {
         Answer::Round {
             least,
@@ -69,7 +80,14 @@ fn tell_steps<'a>(
     values: &mut [u64],
     out: &mut [u8],
     printed: usize,
-) -> Told {
+) -> Told
+    requires { ⌜ WithinLimits «record» ⌝ }
+    requires { ⌜ Wiring (now owns) (now a) (now b) (now left) (now rule) n ⌝ }
+    requires { ⌜ Circles n (now a) (now b) (now label) (now members) (now ends) count ⌝ }
+    requires { ⌜ Lent n (now before) (now sets) (now values) ⌝ }
+    requires { ⌜ printed ≤ length (now out) ⌝ }
+    ensures { λ r. ⌜ TurnsTold (now (table .entry)) (now (owns .entry)) n (now (a .entry)) (now (b .entry)) (now (left .entry)) (now (rule .entry)) (now (label .entry)) (now (members .entry)) (now (ends .entry)) count (now (before .entry)) (now (sets .entry)) «record» turns printed (now (out .entry)) r (now (sets .exit)) (now (out .exit)) ⌝ }
+{
     let mut work = record;
     let mut at = printed;
     let mut still = turns;
