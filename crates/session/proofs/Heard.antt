@@ -12,11 +12,15 @@ use Rattle.lines.specs.Text.{byte, four}
 use Rattle.lines.proofs.Fields.{line-length}
 use Rattle.frames.specs.Out.{refusalText}
 use Rattle.update.specs.declared.Record.{Record}
+use Rattle.update.specs.Records.{emptyRecord}
 use Rattle.update.specs.Memories.{Memory}
+use Rattle.frames.specs.declared.Expected.{Expected}
+use Rattle.frames.specs.declared.Taken.{Taken}
+use Rattle.frames.specs.declared.Taken.the-variants.{Next, Stopped as StoppedAt}
 use Rattle.engine.specs.declared.Begun.{Begun}
 use Rattle.engine.specs.Lent.{begun}
 use Rattle.session.specs.Owed.{orderCall}
-use Rattle.session.specs.Hearing.{Heard, turnsMost, called, waiting, Hears}
+use Rattle.session.specs.Hearing.{Heard, turnsMost, stopped, called, waiting, modeOf, tabled, Hears}
 use Rattle.session.specs.declared.Order.{Order}
 use Rattle.session.specs.declared.Mode.{Mode}
 use Rattle.session.specs.declared.Mode.the-variants.{Command, Working}
@@ -56,3 +60,13 @@ module _ (t ps os : List ℕ) (m : Memory) (r : Record) where
         → called t ps os m r order count command ≡ record { mode = Command; text = refusalText (numberOf q) command; next = b .«record»; words = t; parts = ps; partOwns = os; memory = m′ }
     unfolding called
     called-refused q s = rw (← k, ← e, s)
+
+-- ---- a frame of the table: u the words behind it, and w those that the code left
+module _ (u w ps os : List ℕ) (m : Memory) (printed : ℕ) (out : List ℕ) (taken : Taken) where
+  pub table-next : (mode : Mode) (r : Record) (y : Expected) → taken ≡ Next y → w ≡ u → mode ≡ modeOf y → r ≡ emptyRecord
+      → Hears (tabled u ps os m taken) (record { mode = mode; «record» = r; printed = printed }) printed out out w ps os m
+  table-next mode r y e f g h = rw (e, f, g, h) (silent u ps os m emptyRecord (modeOf y) printed out)
+
+  pub table-stopped : (out′ : List ℕ) (told : Told) (r : Record) (q : Refusal) (line : ℕ) → taken ≡ StoppedAt q line → w ≡ u → r ≡ emptyRecord
+      → Hears (stopped w ps os m r (numberOf q) line) told printed out out′ w ps os m → Hears (tabled u ps os m taken) told printed out out′ w ps os m
+  table-stopped out′ told r q line e f h x = rw (e, ← f, ← h) x
