@@ -1,11 +1,13 @@
 -- What a line leads to, by the kind of its frame and by what is waited for. Assumes nothing.
 use mathlib.Core.Path.{_≡_, refl}
+use mathlib.Core.Bool.{Bool, true, false, cond}
 use mathlib.Core.List.{List, [], _∷_}
 use Prim.Native.Nat.{ℕ, zero, suc, _+_, _≤_, _<_}
 use native.Mathlib.Omega.{arith}
 use borrow.Author.Tests.{lt-ltb, le-ltb}
 use types.Run.{OneOf, miss}
 use denote.Enum.Declared.{tagOf}
+use lib.Dec.{ltb}
 use lib.ListN.{length, set, length-set}
 use Rattle.update.specs.declared.Record.{Record}
 use Rattle.update.specs.Memories.{Memory}
@@ -37,6 +39,14 @@ module _ (taken x : ℕ) (xs : List ℕ) where
 
   pub kept-out : 513 ≤ taken → xs ≡ keptAt taken x xs
   kept-out h = rw (le-ltb taken 513 h)
+
+  same-room : (b : Bool) → length (cond b (set xs taken x) xs) ≡ length xs
+  same-room true = length-set xs taken x
+  same-room false = refl
+
+  -- 513 have their place still
+  pub kept-room : (ys : List ℕ) → ys ≡ keptAt taken x xs → 513 ≤ length xs → 513 ≤ length ys
+  kept-room ys e h = rw (e, same-room (ltb taken 513)) h
 
 -- ---- a frame by its tag
 module _ (t ps os : List ℕ) (m : Memory) (r : Record) where

@@ -39,6 +39,15 @@ pub as-well : {h k : Heard} {told : Told} {printed : ℕ} {out out′ words part
     → Hears k told printed out out′ words parts partOwns m → Hears h told printed out out′ words parts partOwns m
 as-well e x = rw e x
 
+-- nodes that are what others are
+pub kept-as : {h : Heard} {told : Told} {printed : ℕ} {out out′ words ps qs os ws : List ℕ} {m : Memory} → ps ≡ qs → os ≡ ws
+    → Hears h told printed out out′ words qs ws m → Hears h told printed out out′ words ps os m
+kept-as e f x = rw (e, f) x
+
+pub called-as : (t : List ℕ) {ps qs os ws : List ℕ} (m : Memory) (r : Record) (order : Order) (count command : ℕ) → ps ≡ qs → os ≡ ws
+    → called t qs ws m r order count command ≡ called t ps os m r order count command
+called-as t m r order count command e f = rw (e, f)
+
 module _ (t ps os : List ℕ) (m : Memory) (r : Record) where
   -- nothing is printed
   pub silent : (mode : Mode) (printed : ℕ) (out : List ℕ) → Hears (waiting t ps os m r mode) (record { mode = mode; «record» = r; printed = printed }) printed out out t ps os m
