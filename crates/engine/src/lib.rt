@@ -15,6 +15,7 @@ pub use refuse::judge_ground;
 pub use refuse::judge_holding;
 pub use refuse::judge_look;
 pub use refuse::judge_step;
+pub use trees::is_declared;
 use update::Record;
 pub use working::prepare;
 pub use working::run;

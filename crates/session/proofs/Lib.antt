@@ -9,3 +9,6 @@ pub mod Ending
 pub mod Answering
 pub mod Stepped
 pub mod Turning
+pub mod Heard
+pub mod Dumps
+pub mod Cases

@@ -1,36 +1,25 @@
 // What a dump prints.
 use crate::Mode;
 use crate::Told;
+use dump::put_sets;
 use frames::put_refusal;
-use frames::put_set;
 use refusal::Refusal;
-use table::has_set;
-use table::left_of;
 use update::Open;
 use update::Record;
+ghost use mathlib.Core.Path.{_≡_};
+ghost use Prim.Native.Nat.{_+_};
+ghost use lib.ListN.{length};
+ghost use lib.Seq.{sets as setsAt};
+ghost use Rattle.update.specs.Records.{isOpen};
+ghost use Rattle.engine.specs.Lent.{lent};
+ghost use Rattle.engine.specs.Order.{Holding};
+ghost use Rattle.session.specs.Session.{dumpTold};
+ghost use Rattle.session.specs.Hearing.{Spacious};
+ghost use Rattle.session.specs.declared.Mode.the-variants.{Command};
 
-// The sets of a dump (stand-in until the dump crate is there).
-fn put_sets(
-    table: &[u64; 2657],
-    held: &[u8],
-    nodes: usize,
-    sets: &[u64],
-    out: &mut [u8],
-    printed: usize,
-) -> usize {
-    let mut at = printed;
-    let mut x: usize = 0;
-    while x < 8 * nodes {
-        if has_set(table, left_of(table, held[x / 8] as usize), x % 8) {
-            at = put_set(out, at, x as u16, sets[x]);
-        }
-        x += 1;
-    }
-    at
-}
-
-// Why a dump is refused, over a judged table and tree: 10, then 16.
-fn is_open(open: Open) -> bool {
+fn is_open(open: Open) -> bool
+    ensures { λ r. ⌜ r ≡ isOpen «open» ⌝ }
+{
     match open {
         Open::Nothing => false,
         Open::Load => true,
@@ -38,26 +27,40 @@ fn is_open(open: Open) -> bool {
     }
 }
 
-// "for a dump `13` instance (2), value (8), rising".
+// "for a dump `13` instance (2), value (8), rising". Over a judged table and tree it is refused by 10, then by 16.
 pub fn tell_sets(
     table: &[u64; 2657],
     record: Record,
     held: &[u8],
+    held_owns: &[u64],
     sets: &[u64],
+    before: &[u64],
     line: u32,
     out: &mut [u8],
     printed: usize,
-) -> Told {
-    let at = if is_open(record.open) {
-        put_refusal(out, printed, Refusal::Busy, line)
-    } else if !record.held {
-        put_refusal(out, printed, Refusal::Absent, line)
-    } else {
-        put_sets(table, held, record.nodes, sets, out, printed)
-    };
+) -> Told
+    requires { ⌜ Holding (now table) (lent (now held) (now «held_owns») (now sets) (now before)) «record» ⌝ }
+    requires { ⌜ Spacious (now out) printed ⌝ }
+    ensures { λ r. ⌜ (r .mode ≡ Command) × (r .«record» ≡ «record») × (r .printed ≡ printed + length (dumpTold line (now (table .entry)) «record» (lent (now (held .entry)) (now («held_owns» .entry)) (now (sets .entry)) (now (before .entry))) .text)) × (now (out .exit) ≡ setsAt (now (out .entry)) printed (dumpTold line (now (table .entry)) «record» (lent (now (held .entry)) (now («held_owns» .entry)) (now (sets .entry)) (now (before .entry))) .text)) ⌝ }
+{
+    let open = record.open;
+    if is_open(open) {
+        return Told {
+            mode: Mode::Command,
+            record: record,
+            printed: put_refusal(out, printed, Refusal::Busy, line),
+        };
+    }
+    if !record.held {
+        return Told {
+            mode: Mode::Command,
+            record: record,
+            printed: put_refusal(out, printed, Refusal::Absent, line),
+        };
+    }
     Told {
         mode: Mode::Command,
         record: record,
-        printed: at,
+        printed: put_sets(table, held, record.nodes, sets, out, printed),
     }
 }

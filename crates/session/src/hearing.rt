@@ -12,17 +12,22 @@ use frames::take_frame;
 use refusal::Refusal;
 use update::Record;
 ghost use mathlib.Core.Path.{_≡_};
-ghost use mathlib.Core.Bool.{true};
-ghost use Prim.Native.Nat.{_+_, _≤_, _<_};
+ghost use mathlib.Core.List.{List};
+ghost use Prim.Native.Nat.{ℕ, _+_, _≤_, _<_};
 ghost use lib.ListN.{length};
-ghost use Rattle.frames.specs.Read.{Awaits};
+ghost use Rattle.refusal.specs.Numbers.{numberOf};
+ghost use Rattle.update.specs.Memories.{Memory};
+ghost use Rattle.frames.specs.Read.{Awaits, takenAt, wordsAfter};
 ghost use Rattle.engine.specs.Lent.{lent};
 ghost use Rattle.engine.specs.Order.{Holding};
 ghost use Rattle.session.specs.Owed.{Sound};
-ghost use Rattle.session.specs.Hearing.{hearing, Hears, Spacious};
+ghost use Rattle.session.specs.Hearing.{stopped, strange, modeOf, tabled, ordered, commanded, keptAt, noded, hearing, Hears, Spacious};
 
 // "After 1 to 5, 13 or 14 it stops".
-fn stop(out: &mut [u8], printed: usize, record: Record, refusal: Refusal, line: u32) -> Told {
+fn stop(out: &mut [u8], printed: usize, record: Record, refusal: Refusal, line: u32) -> Told
+    requires { ⌜ printed + 13 ≤ length (now out) ⌝ }
+    ensures { λ r. ⌜ ((t ps os : List ℕ) (m : Memory) → Hears (stopped t ps os m «record» (numberOf refusal) line) r printed (now (out .entry)) (now (out .exit)) t ps os m) ⌝ }
+{
     Told {
         mode: Mode::Stopped,
         record: record,
@@ -31,7 +36,10 @@ fn stop(out: &mut [u8], printed: usize, record: Record, refusal: Refusal, line: 
 }
 
 // A frame in a place where it can't stand: its own refusal, else 14.
-fn stop_at(out: &mut [u8], printed: usize, record: Record, frame: Frame, line: u32) -> Told {
+fn stop_at(out: &mut [u8], printed: usize, record: Record, frame: Frame, line: u32) -> Told
+    requires { ⌜ printed + 13 ≤ length (now out) ⌝ }
+    ensures { λ r. ⌜ ((t ps os : List ℕ) (m : Memory) → Hears (strange t ps os m «record» frame line) r printed (now (out .entry)) (now (out .exit)) t ps os m) ⌝ }
+{
     let Frame::Refused { refusal, line: own } = frame else {
         return stop(out, printed, record, Refusal::Frame, line);
     };
@@ -39,30 +47,35 @@ fn stop_at(out: &mut [u8], printed: usize, record: Record, frame: Frame, line: u
 }
 
 // What is waited for behind a frame of the table.
-fn mode_of(expected: Expected) -> Mode {
+fn mode_of(expected: Expected) -> Mode
+    ensures { λ r. ⌜ r ≡ modeOf expected ⌝ }
+{
     if let Expected::Ended = expected {
         return Mode::Command;
     }
     Mode::Table(expected)
 }
 
-// A frame of the table.
+// A frame of the table. No record counts before a tree is held.
 fn hear_table(
     table: &mut [u64; 2657],
     expected: Expected,
     frame: Frame,
     line: u32,
-    record: Record,
     out: &mut [u8],
     printed: usize,
-) -> Told {
+) -> Told
+    requires { ⌜ (length (now table) ≡ 2657) × Awaits (now table) expected × (printed + 13 ≤ length (now out)) ⌝ }
+    ensures { λ r. ⌜ ((ps os : List ℕ) (m : Memory) → Hears (tabled (wordsAfter (now (table .entry)) expected frame) ps os m (takenAt (now (table .entry)) expected frame line)) r printed (now (out .entry)) (now (out .exit)) (now (table .exit)) ps os m) ⌝ }
+{
+    let none = Record::empty();
     match take_frame(table, expected, frame, line) {
         Taken::Next(next) => Told {
             mode: mode_of(next),
-            record: Record::empty(),
+            record: none,
             printed: printed,
         },
-        Taken::Stopped { refusal, line: bad } => stop(out, printed, record, refusal, bad),
+        Taken::Stopped { refusal, line: bad } => stop(out, printed, none, refusal, bad),
     }
 }
 
@@ -81,7 +94,11 @@ fn hear_order(
     before: &mut [u64],
     out: &mut [u8],
     printed: usize,
-) -> Told {
+) -> Told
+    requires { ⌜ Holding (now table) (lent (now held) (now «held_owns») (now sets) (now before)) «record» ⌝ }
+    requires { ⌜ (513 ≤ length (now parts)) × (513 ≤ length (now «part_owns»)) × (printed + 13 ≤ length (now out)) ⌝ }
+    ensures { λ r. ⌜ Hears (ordered (now (table .entry)) (now (parts .entry)) (now («part_owns» .entry)) (lent (now (held .entry)) (now («held_owns» .entry)) (now (sets .entry)) (now (before .entry))) «record» order count line) r printed (now (out .entry)) (now (out .exit)) (now (table .entry)) (now (parts .entry)) (now («part_owns» .entry)) (lent (now (held .exit)) (now («held_owns» .exit)) (now (sets .exit)) (now (before .exit))) ⌝ }
+{
     if count == 0 {
         return open_update(
             table,
@@ -125,7 +142,11 @@ fn hear_command(
     before: &mut [u64],
     out: &mut [u8],
     printed: usize,
-) -> Told {
+) -> Told
+    requires { ⌜ Holding (now table) (lent (now held) (now «held_owns») (now sets) (now before)) «record» ⌝ }
+    requires { ⌜ (513 ≤ length (now parts)) × (513 ≤ length (now «part_owns»)) × Spacious (now out) printed ⌝ }
+    ensures { λ r. ⌜ Hears (commanded (now (table .entry)) (now (parts .entry)) (now («part_owns» .entry)) (lent (now (held .entry)) (now («held_owns» .entry)) (now (sets .entry)) (now (before .entry))) «record» frame line) r printed (now (out .entry)) (now (out .exit)) (now (table .entry)) (now (parts .entry)) (now («part_owns» .entry)) (lent (now (held .exit)) (now («held_owns» .exit)) (now (sets .exit)) (now (before .exit))) ⌝ }
+{
     match frame {
         Frame::Load { count } => hear_order(
             table,
@@ -157,13 +178,26 @@ fn hear_command(
             out,
             printed,
         ),
-        Frame::Dump => tell_sets(table, record, &*held, &*sets, line, out, printed),
+        Frame::Dump => tell_sets(
+            table,
+            record,
+            &*held,
+            &*held_owns,
+            &*sets,
+            &*before,
+            line,
+            out,
+            printed,
+        ),
         _ => stop_at(out, printed, record, frame, line),
     }
 }
 
 // A node is kept while a tree may have so many.
-fn keep_node(parts: &mut [u8], part_owns: &mut [u64], taken: usize, production: u8, own: u64) {
+fn keep_node(parts: &mut [u8], part_owns: &mut [u64], taken: usize, production: u8, own: u64)
+    requires { ⌜ (513 ≤ length (now parts)) × (513 ≤ length (now «part_owns»)) ⌝ }
+    ensures { λ r. ⌜ (now (parts .exit) ≡ keptAt taken production (now (parts .entry))) × (now («part_owns» .exit) ≡ keptAt taken own (now («part_owns» .entry))) ⌝ }
+{
     if taken < 513 {
         parts[taken] = production;
         part_owns[taken] = own;
@@ -188,7 +222,11 @@ fn hear_node(
     before: &mut [u64],
     out: &mut [u8],
     printed: usize,
-) -> Told {
+) -> Told
+    requires { ⌜ Holding (now table) (lent (now held) (now «held_owns») (now sets) (now before)) «record» ⌝ }
+    requires { ⌜ (513 ≤ length (now parts)) × (513 ≤ length (now «part_owns»)) × (printed + 13 ≤ length (now out)) × (taken < count) ⌝ }
+    ensures { λ r. ⌜ Hears (noded order count taken command frame line (now (table .entry)) (now (parts .entry)) (now («part_owns» .entry)) (lent (now (held .entry)) (now («held_owns» .entry)) (now (sets .entry)) (now (before .entry))) «record») r printed (now (out .entry)) (now (out .exit)) (now (table .entry)) (now (parts .exit)) (now («part_owns» .exit)) (lent (now (held .exit)) (now («held_owns» .exit)) (now (sets .exit)) (now (before .exit))) ⌝ }
+{
     let Frame::Node { production, own } = frame else {
         return stop_at(out, printed, record, frame, line);
     };
@@ -243,7 +281,7 @@ pub fn hear(
     ensures { λ r. ⌜ Hears (hearing mode frame line (now (table .entry)) (now (parts .entry)) (now («part_owns» .entry)) (lent (now (held .entry)) (now («held_owns» .entry)) (now (sets .entry)) (now (before .entry))) «record») r printed (now (out .entry)) (now (out .exit)) (now (table .exit)) (now (parts .exit)) (now («part_owns» .exit)) (lent (now (held .exit)) (now («held_owns» .exit)) (now (sets .exit)) (now (before .exit))) ⌝ }
 {
     match mode {
-        Mode::Table(expected) => hear_table(table, expected, frame, line, record, out, printed),
+        Mode::Table(expected) => hear_table(table, expected, frame, line, out, printed),
         Mode::Command => hear_command(
             &*table,
             record,
