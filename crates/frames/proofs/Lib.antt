@@ -12,3 +12,6 @@ pub mod Trees
 pub mod Kept
 pub mod Tables
 pub mod Walked
+pub mod Growing
+pub mod Copying
+pub mod Planted
