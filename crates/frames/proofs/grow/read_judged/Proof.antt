@@ -40,10 +40,10 @@ room : (c : tie.After-enum-told) → let a = start (read (known c)) .args in Roo
 room c = let r = read (known c) in let a = start r .args in roomed (a .table .now) (r .read-lines .last .1 .1 .1 .0) (counted (known c)) (length (a .productions .now)) (length (a .owns .now)) (none c)
 
 copy-productions-requires : tie.Need-copy-productions-requires
-copy-productions-requires c κs = let k = room (c .before .before) in (omega (arith, k .few), k .first)
+copy-productions-requires c κs = let k = room (c .before .before) in (omega (arith, k .few), omega (arith, k .first))
 
 copy-owns-requires : tie.Need-copy-owns-requires
-copy-owns-requires c κs = let k = room (c .before .before .before .before .before .before .before) in (omega (arith, k .few), k .second)
+copy-owns-requires c κs = let k = room (c .before .before .before .before .before .before .before) in (omega (arith, k .few), omega (arith, k .second))
 
 returns : tie.Need-returns
 returns c =
