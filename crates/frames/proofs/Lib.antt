@@ -15,3 +15,6 @@ pub mod Walked
 pub mod Growing
 pub mod Copying
 pub mod Planted
+pub mod Alike
+pub mod Afresh
+pub mod Reread

@@ -2,8 +2,9 @@
 use mathlib.Core.Path.{_≡_}
 use mathlib.Core.List.{List, [], _∷_, _++_}
 use Prim.Native.Nat.{ℕ, zero, suc, _+_, _^_, _≤_, _<_}
-use lib.ListN.{length, take, drop}
-use Rattle.table.specs.Judge.{judgeTable}
+use lib.ListN.{length, getD, take, drop}
+use Rattle.table.specs.Judge.{frames, judgeTable}
+use Rattle.table.specs.Same.{Same}
 use Rattle.frames.specs.Frames.{frameAt, lineAfter}
 use Rattle.frames.specs.Text.{textOf, treeText, tableText}
 use Rattle.frames.specs.Reading.{done, readingAt}
@@ -94,3 +95,16 @@ pub record TableForth (s : List ℕ) (place : ℕ) (t : List ℕ) (end : ℕ) : 
 
 abbrev pub TableForthAll : Type 0
 TableForthAll = (s : List ℕ) (place line : ℕ) (t : List ℕ) (end next : ℕ) → readingAt s place line ≡ done t end next → TableForth s place t end
+
+-- words as memory has them
+abbrev pub AllWords : List ℕ → Type 0
+AllWords t = (m : ℕ) → getD t m 0 < 2 ^ 64
+
+-- a sound table that is written reads back equal: "equality doesn't look" at what lies beyond its counts
+pub record TableBack (t rest : List ℕ) (line : ℕ) : Type 0 where
+  pub words : List ℕ
+  pub read : readingAt (tableText t ++ rest) 0 line ≡ done words (length (tableText t)) (linesAfter (length (frames t)) line)
+  pub same : Same t words
+
+abbrev pub TableBackAll : Type 0
+TableBackAll = (t rest : List ℕ) (line : ℕ) → judgeTable t ≡ 0 → AllWords t → TableBack t rest line
