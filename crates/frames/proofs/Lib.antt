@@ -18,3 +18,4 @@ pub mod Planted
 pub mod Alike
 pub mod Afresh
 pub mod Reread
+pub mod Regrown
