@@ -1,9 +1,6 @@
 // However the bytes arrive: a session's text comes in pieces of any length, and the frames that it prints go out.
-mod feeding;
 mod judging;
 
-pub use feeding::feed;
-pub use feeding::finish;
 use frames::Expected;
 use refusal::Refusal;
 use session::Mode;

@@ -1,12 +1,6 @@
 // A session's table and commands, line by line: what each whole line leads to, and what the rounds of an update print.
-mod dumping;
-mod hearing;
-mod opening;
-mod telling;
 
 use frames::Expected;
-pub use hearing::hear;
-pub use telling::tell_rounds;
 use update::Record;
 
 // The two commands that open an update; a replacement names its point.
