@@ -35,6 +35,10 @@ module _ {P : Type 0} where
 pub decides-zero : (v : Verdict) (n : ℕ) → verdictOf v ≡ n → Decides v (n ≡ 0)
 decides-zero v n e = record { yes = λ s. sym e ∙ ap verdictOf s; no = λ z. verdict-one v Sound (e ∙ z) }
 
+-- what is not so where a test is false
+pub tested-not : {b : Bool} {P : Type 0} → Tests b P → b ≡ false → P → ⊥
+tested-not d s p = let e = d .no p in let z : _≡_ {A = ℕ} 0 1 = cc in omega arith
+
 -- the same verdict on something that holds exactly where the first does
 pub decides-as : {v : Verdict} {P Q : Type 0} → Decides v P → (P → Q) → (Q → P) → Decides v Q
 decides-as d f g = record { yes = λ s. f (d .yes s); no = λ q. d .no (g q) }
