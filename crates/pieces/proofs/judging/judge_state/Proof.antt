@@ -1,99 +1,59 @@
+-- The line first, and then what each mode goes with. Assumes nothing.
+use mathlib.Core.Path.{_≡_, refl}
+use mathlib.Core.List.{List}
+use Prim.Native.Nat.{ℕ, _≤_, _<_}
+use native.Mathlib.Omega.{arith}
 use borrow.Author.Needs.{needs}
+use borrow.Author.Tests.{not-true, not-false}
+use lib.ListN.{take}
+use Rattle.refusal.specs.Numbers.{verdictOf}
+use Rattle.refusal.specs.declared.Verdict.{Verdict}
+use Rattle.refusal.specs.declared.Verdict.the-variants.{Refused}
+use Rattle.refusal.specs.declared.Refusal.the-variants.{Fields}
+use Rattle.update.specs.declared.Record.{Record}
+use Rattle.update.specs.Memories.{Memory}
+use Rattle.update.specs.Refusals.{stepRefusal}
+use Rattle.engine.specs.Lent.{lent}
+use Rattle.engine.specs.Order.{Going}
+use Rattle.engine.proofs.Orders.{going, step-none}
+use Rattle.session.specs.Owed.{Sound, Begun}
+use Rattle.session.specs.declared.Order.{Order}
+use Rattle.session.specs.declared.Mode.{Mode}
+use Rattle.session.specs.declared.Mode.the-variants.{Table, Command, Nodes, Working, Stopped}
+use Rattle.pieces.specs.Feeding.{Settled, Decides}
+use Rattle.pieces.specs.declared.State.{State}
+use Rattle.pieces.proofs.Deciding.{decides-zero, decides-as, decides-yes, decides-no, tested-not}
 use Rattle.pieces.proofs.judging.judge_state.Statement.{statement}
 use Rattle.pieces.proofs.judging.judge_state.Tie as tie
-use Rattle.pieces.proofs.judging.judge_state.Reads as reads
-use Rattle.pieces.proofs.judging.judge_state.Lts as lts
-use Rattle.engine.proofs.judge_step.Reads as judge-step-reads
-use Rattle.pieces.proofs.judging.is_begun.Reads as is-begun-reads
-use Rattle.pieces.proofs.judging.judge_kept.Reads as judge-kept-reads
-use Rattle.pieces.proofs.judging.judge_so_far.Reads as judge-so-far-reads
 
--- src/judging.rt:198:9
-is-begun-requires : tie.Need-is-begun-requires
-is-begun-requires c κs = search needs
+stepping : (t : List ℕ) (m : Memory) (r : Record) (v : Verdict) → verdictOf v ≡ stepRefusal t m r → Decides v (Going t m r)
+stepping t m r v e = decides-as (decides-zero v (stepRefusal t m r) e) (going t m r) (step-none t m r)
 
--- src/judging.rt:199:9
-returns : tie.Need-returns
-returns c = ?
+module _ (s : State) (t window : List ℕ) (m : Memory) where
+  settles : (mode : Mode) {v : Verdict} → s .mode ≡ mode → (s .begun ≤ 28) × Begun (take (s .begun) window) → Decides v (Sound mode t m (s .«record»)) → Decides v (Settled s t window m)
+  settles mode e b d = decides-as d (λ z. record { begun = b .0; line = b .1; sound = rw e z }) (λ k. rw e at (k .sound))
 
--- src/judging.rt:204:21
-enum-known-mode : tie.Need-enum-known-mode
-enum-known-mode c = search needs
-
--- src/judging.rt:204:34
-judge-so-far-requires : tie.Need-judge-so-far-requires
-judge-so-far-requires c κs = search needs
-
--- src/judging.rt:205:26
-enum-told : tie.Need-enum-told
-enum-told c = search needs
-
--- src/judging.rt:205:26
-judge-kept-requires : tie.Need-judge-kept-requires
-judge-kept-requires c κs = search needs
-
--- src/judging.rt:207:13
-enum-known-mode-2 : tie.Need-enum-known-mode-2
-enum-known-mode-2 c = search needs
-
--- src/judging.rt:213:17
-returns-2 : tie.Need-returns-2
-returns-2 c = ?
-
--- src/judging.rt:215:13
-judge-kept-requires-2 : tie.Need-judge-kept-requires-2
-judge-kept-requires-2 c κs = search needs
-
--- src/judging.rt:217:25
-enum-known-mode-3 : tie.Need-enum-known-mode-3
-enum-known-mode-3 c = search needs
-
--- src/judging.rt:217:36
-judge-step-requires : tie.Need-judge-step-requires
-judge-step-requires c κs = search needs
-
--- src/judging.rt:218:26
-enum-told-2 : tie.Need-enum-told-2
-enum-told-2 c = search needs
-
--- src/judging.rt:186:1
-returns-3 : tie.Need-returns-3
-returns-3 c = ?
-
--- src/judging.rt:186:1
-returns-4 : tie.Need-returns-4
-returns-4 c = ?
-
--- src/judging.rt:186:1
-returns-5 : tie.Need-returns-5
-returns-5 c = ?
-
--- src/judging.rt:186:1
-returns-6 : tie.Need-returns-6
-returns-6 c = ?
-
--- src/judging.rt:186:1
-returns-7 : tie.Need-returns-7
-returns-7 c = ?
+  no-room : (order : Order) (count taken line : ℕ) → s .mode ≡ Nodes order count taken line → count ≤ taken → Decides (Refused Fields) (Settled s t window m)
+  no-room order count taken line e h = decides-no refl (λ k. let f : Sound (Nodes order count taken line) t m (s .«record») = rw e at (k .sound) in omega (arith, f .1))
 
 pub judge-state-spec : {M : Type 1} → statement M
 judge-state-spec =
     tie.close
     (tie.spec
-    is-begun-requires
-    returns
-    enum-known-mode
-    judge-so-far-requires
-    enum-told
-    judge-kept-requires
-    enum-known-mode-2
-    returns-2
-    judge-kept-requires-2
-    enum-known-mode-3
-    judge-step-requires
-    enum-told-2
-    returns-3
-    returns-4
-    returns-5
-    returns-6
-    returns-7)
+    (λ c κs. search needs)
+    (λ c. let a = c .before .before .before .before .before .before .before .args in decides-no refl (λ k. tested-not (c .before .is-begun .ensures) (not-true (c .before .is-begun .result) (c .if1 .taken)) (k .begun, k .line)))
+    (λ c. search needs)
+    (λ c κs. search needs)
+    (λ c. search needs)
+    (λ c κs. search needs)
+    (λ c. search needs)
+    (λ c. let a = c .before .before .before .before .before .before .before .before .before .before .before .before .args in let g = c .before .before .mode2 .given in no-room (a .state) (a .table .now) (a .window .now) (lent (a .held .now) (a .held-owns .now) (a .sets .now) (a .before .now)) (g .0 .0) (g .0 .1 .0) (g .0 .1 .1 .0) (g .0 .1 .1 .1 .0) (g .1) (c .if2 .taken))
+    (λ c κs. search needs)
+    (λ c. search needs)
+    (λ c κs. search needs)
+    (λ c. search needs)
+    (λ c. let a = c .before .before .before .before .before .before .before .before .before .before .before .before .args in let g = c .before .before .mode .given in settles (a .state) (a .table .now) (a .window .now) (lent (a .held .now) (a .held-owns .now) (a .sets .now) (a .before .now)) (Table (g .0 .0)) (g .1) (c .before .before .before .before .before .before .is-begun .ensures .yes (not-false (c .before .before .before .before .before .before .is-begun .result) (c .before .before .before .before .before .if1 .left))) (c .judge-so-far .ensures))
+    (λ c. let a = c .before .before .before .before .before .before .before .before .before .before .before .args in settles (a .state) (a .table .now) (a .window .now) (lent (a .held .now) (a .held-owns .now) (a .sets .now) (a .before .now)) Command (c .before .enum-told .given .1) (c .before .before .before .before .before .is-begun .ensures .yes (not-false (c .before .before .before .before .before .is-begun .result) (c .before .before .before .before .if1 .left))) (c .judge-kept .ensures))
+    (λ c. let a = c .before .before .before .before .before .before .before .before .before .before .before .before .before .args in let g = c .before .before .before .mode2 .given in settles (a .state) (a .table .now) (a .window .now) (lent (a .held .now) (a .held-owns .now) (a .sets .now) (a .before .now)) (Nodes (g .0 .0) (g .0 .1 .0) (g .0 .1 .1 .0) (g .0 .1 .1 .1 .0)) (g .1) (c .before .before .before .before .before .before .before .is-begun .ensures .yes (not-false (c .before .before .before .before .before .before .before .is-begun .result) (c .before .before .before .before .before .before .if1 .left))) (decides-as (c .judge-kept2 .ensures) (λ k. (k, c .before .if2 .left)) (λ w. w .0)))
+    (λ c. let a = c .before .before .before .before .before .before .before .before .before .before .before .before .args in let g = c .before .before .mode3 .given in settles (a .state) (a .table .now) (a .window .now) (lent (a .held .now) (a .held-owns .now) (a .sets .now) (a .before .now)) (Working (g .0 .0)) (g .1) (c .before .before .before .before .before .before .is-begun .ensures .yes (not-false (c .before .before .before .before .before .before .is-begun .result) (c .before .before .before .before .before .if1 .left))) (stepping (a .table .now) (lent (a .held .now) (a .held-owns .now) (a .sets .now) (a .before .now)) (a .state .«record») (c .judge-step .result) (c .judge-step .ensures)))
+    (λ c. let a = c .before .before .before .before .before .before .before .before .before .before .args in settles (a .state) (a .table .now) (a .window .now) (lent (a .held .now) (a .held-owns .now) (a .sets .now) (a .before .now)) Stopped (c .enum-told2 .given .1) (c .before .before .before .before .is-begun .ensures .yes (not-false (c .before .before .before .before .is-begun .result) (c .before .before .before .if1 .left))) (decides-yes refl tt)))
