@@ -2,7 +2,7 @@
 use mathlib.Core.Path.{_≡_}
 use mathlib.Core.Bool.{Bool, true, false}
 use mathlib.Core.List.{List, _++_}
-use Prim.Native.Nat.{ℕ, _+_, _-_, _≤_}
+use Prim.Native.Nat.{ℕ, _+_, _-_, _≤_, _<_}
 use lib.ListN.{length, take, drop}
 use Rattle.session.specs.Owed.{Begun, Whole}
 
@@ -13,7 +13,8 @@ pub record Gathers (piece : List ℕ) (from : ℕ) (window : List ℕ) (begun n 
   -- they stand behind the others, and nothing else of the window is changed
   pub taken : take n window′ ≡ take begun window ++ take (place - from) (drop from piece)
   pub rest : drop n window′ ≡ drop n window
-  -- the line is decided, or the piece is used up
+  -- the line is decided, by a byte of the piece at the latest, or the piece is used up
   pub decided : whole ≡ true → Whole (take n window′)
+  pub moved : whole ≡ true → (from < place) × (place ≤ length piece)
   pub waits : whole ≡ false → Begun (take n window′)
   pub used : whole ≡ false → length piece ≤ place

@@ -1,6 +1,8 @@
-// The bytes of a line, from one piece or several.
+// The bytes of a line, from one piece or several, and the lines' numbers.
+ghost use mathlib.Core.Path.{_≡_};
 ghost use Prim.Native.Nat.{_≤_};
 ghost use lib.ListN.{length, take};
+ghost use Rattle.frames.specs.Frames.{lineAfter};
 ghost use Rattle.session.specs.Owed.{Begun};
 ghost use Rattle.pieces.specs.Gathering.{Gathers};
 
@@ -43,4 +45,11 @@ pub fn gather(piece: &[u8], from: usize, window: &mut [u8], begun: usize) -> Gat
         place: at,
         whole: true,
     }
+}
+
+// The number of the line behind, ffffffff at most.
+pub fn line_after(line: u32) -> u32
+    ensures { λ r. ⌜ r ≡ lineAfter line ⌝ }
+{
+    if line < 0xffff_ffff { line + 1 } else { line }
 }

@@ -24,6 +24,7 @@ module _ (piece : List ℕ) (from : ℕ) (window₀ : List ℕ) (begun : ℕ) wh
     onward : from ≤ at
     count : n ≡ begun + (at - from)
     few : n ≤ 29
+    inside : from < at → at ≤ length piece
     taken : take n window ≡ take begun window₀ ++ take (at - from) (drop from piece)
     rest : drop n window ≡ drop n window₀
     size : length window ≡ length window₀
@@ -31,7 +32,7 @@ module _ (piece : List ℕ) (from : ℕ) (window₀ : List ℕ) (begun : ℕ) wh
   front-first : begun ≤ 28 → Front window₀ begun from
   front-first h =
       let z : from - from ≡ 0 = omega arith in
-      record { onward = omega arith; count = omega arith; few = omega arith; taken = rw z (sym (append-nil (take begun window₀))); rest = refl; size = refl }
+      record { onward = omega arith; count = omega arith; few = omega arith; inside = λ k. absurd (omega arith); taken = rw z (sym (append-nil (take begun window₀))); rest = refl; size = refl }
 
   module _ (window : List ℕ) (n at : ℕ) (f : Front window n at) (room : n < length window) (some : at < length piece) where
     abbrev b : ℕ
@@ -49,6 +50,7 @@ module _ (piece : List ℕ) (from : ℕ) (window₀ : List ℕ) (begun : ℕ) wh
       onward = omega (arith, f .onward);
       count = omega (arith, f .onward, f .count);
       few = omega arith;
+      inside = λ k. omega arith;
       taken = ap (λ (k : ℕ). take k (set window n b)) (add-one n) ∙ take-suc-set window n b room
           ∙ ap (λ (l : List ℕ). l ++ (b ∷ [])) (f .taken) ∙ append-assoc (take begun window₀) (take (at - from) (drop from piece)) (b ∷ [])
           ∙ ap (λ (l : List ℕ). take begun window₀ ++ l) (sym more-taken);
@@ -80,6 +82,7 @@ module _ (piece : List ℕ) (from : ℕ) (window₀ : List ℕ) (begun : ℕ) wh
             no-end = λ i k d. let l : i < n = omega arith in c i l (sym (getD-take (n + 1) (set window n b) i 0 (omega arith) ∙ kept i l) ∙ d);
             ends = λ k. ap (λ (j : ℕ). getD (take (n + 1) (set window n b)) j 0) last ∙ getD-take (n + 1) (set window n b) n 0 (omega arith) ∙ getD-set-same window n b 0 room ∙ e;
           };
+          moved = λ t. (omega (arith, f .onward), omega arith);
           waits = λ t. absurd (let z : _≡_ {A = ℕ} 0 1 = cc in omega arith);
           used = λ t. absurd (let z : _≡_ {A = ℕ} 0 1 = cc in omega arith);
         }
@@ -98,12 +101,13 @@ module _ (piece : List ℕ) (from : ℕ) (window₀ : List ℕ) (begun : ℕ) wh
       taken = f .taken;
       rest = f .rest;
       decided = λ t. absurd (let z : _≡_ {A = ℕ} 0 1 = cc in omega arith);
+      moved = λ t. absurd (let z : _≡_ {A = ℕ} 0 1 = cc in omega arith);
       waits = λ t. record { few = omega (arith, size-of); no-end = λ i k e. clean-line i (omega (arith, size-of)) e };
       used = λ t. u;
     }
 
-    full : 29 ≤ n → Gathers piece from window₀ begun n at true window
-    full h = record {
+    full : begun ≤ 28 → 29 ≤ n → Gathers piece from window₀ begun n at true window
+    full b h = record {
       onward = f .onward;
       count = f .count;
       taken = f .taken;
@@ -114,6 +118,7 @@ module _ (piece : List ℕ) (from : ℕ) (window₀ : List ℕ) (begun : ℕ) wh
         no-end = λ i k e. clean-line i (omega (arith, size-of)) e;
         ends = λ k. absurd (omega (arith, size-of));
       };
+      moved = λ t. let k : from < at = omega (arith, f .onward, f .count) in (k, f .inside k);
       waits = λ t. absurd (let z : _≡_ {A = ℕ} 0 1 = cc in omega arith);
       used = λ t. absurd (let z : _≡_ {A = ℕ} 0 1 = cc in omega arith);
     }
@@ -168,7 +173,7 @@ returns-3 : tie.Need-returns-3 Inv-loop μ-loop
 returns-3 c =
     let a = c .before .before .args in
     let l = c .before .loop in
-    full (a .piece .now) (a .from) (a .window .now) (a .begun) (l .window) (l .n) (l .at) (l .inv .0) (omega (arith, c .before .before .pre .0, l .inv .0 .size, l .inv .0 .few)) (l .inv .1) (omega arith)
+    full (a .piece .now) (a .from) (a .window .now) (a .begun) (l .window) (l .n) (l .at) (l .inv .0) (omega (arith, c .before .before .pre .0, l .inv .0 .size, l .inv .0 .few)) (l .inv .1) (c .before .before .pre .1) (omega arith)
 
 pub gather-spec : {M : Type 1} → statement M
 gather-spec =
