@@ -11,14 +11,16 @@ use Rattle.refusal.specs.declared.Refusal.the-variants as why
 use Rattle.refusal.specs.declared.Verdict.{Verdict}
 use Rattle.refusal.specs.declared.Verdict.the-variants as verdict
 use Rattle.update.specs.declared.Record.{Record}
+use Rattle.update.specs.Records.{emptyRecord}
 use Rattle.update.specs.Memories.{Memory}
 use Rattle.update.specs.Within.{Roomy}
+use Rattle.frames.specs.declared.Expected.the-variants.{AtHeader}
 use Rattle.frames.specs.declared.Written.{Written}
 use Rattle.frames.specs.declared.Written.the-variants.{Length, Refused as NotWritten}
 use Rattle.session.specs.Owed.{owed, Sound, Begun}
 use Rattle.session.specs.Laws.{listens, endText}
 use Rattle.session.specs.declared.Mode.{Mode}
-use Rattle.session.specs.declared.Mode.the-variants.{Stopped}
+use Rattle.session.specs.declared.Mode.the-variants.{Table, Stopped}
 use Rattle.pieces.specs.declared.State.{State}
 use Rattle.pieces.specs.declared.Fed.{Fed}
 use Rattle.pieces.specs.declared.Fed.the-variants.{Taken, Refused}
@@ -37,6 +39,10 @@ pub record Desk : Type 0 where
 abbrev pub desk : State → List ℕ → List ℕ → List ℕ → List ℕ → Memory → Desk
 desk state words window parts partOwns memory =
     record { state = state; words = words; window = window; parts = parts; partOwns = partOwns; memory = memory }
+
+-- a session that has read nothing
+abbrev pub firstState : State
+firstState = record { mode = Table AtHeader; begun = 0; line = 1; «record» = emptyRecord }
 
 -- the table's words, and the bytes of the begun line
 abbrev pub tableOf : Desk → List ℕ
@@ -64,6 +70,17 @@ pub record Fits (d : Desk) (out : List ℕ) : Type 0 where
   pub begun : d .state .begun ≤ 28
   pub line : Begun (lineOf d)
   pub sound : Sound (d .state .mode) (tableOf d) (d .memory) (d .state .«record»)
+
+-- what a state is besides that its memory is wide: t are the table's words
+pub record Settled (s : State) (t window : List ℕ) (m : Memory) : Type 0 where
+  pub begun : s .begun ≤ 28
+  pub line : Begun (take (s .begun) window)
+  pub sound : Sound (s .mode) t m (s .«record»)
+
+-- a test that is true exactly where P holds
+pub record Tests (b : Bool) (P : Type 0) : Type 0 where
+  pub yes : b ≡ true → P
+  pub no : P → b ≡ true
 
 -- a verdict that is sound exactly where P holds
 pub record Decides (v : Verdict) (P : Type 0) : Type 0 where

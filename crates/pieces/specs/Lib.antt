@@ -1,2 +1,4 @@
+pub mod Ending
 pub mod Feeding
+pub mod Gathering
 pub mod Laws

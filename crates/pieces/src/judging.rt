@@ -13,15 +13,32 @@ use table::judge_header;
 use table::judge_production;
 use table::judge_symbol;
 use update::Record;
+ghost use mathlib.Core.Path.{_≡_};
+ghost use mathlib.Core.Bool.{true, not};
+ghost use Prim.Native.Nat.{_≤_};
+ghost use lib.ListN.{length, take};
+ghost use Rattle.table.specs.Judge.{refusalAt};
+ghost use Rattle.frames.specs.Walk.{entryOf, isOn};
+ghost use Rattle.frames.specs.Read.{Awaits, Sofar};
+ghost use Rattle.engine.specs.Lent.{lent};
+ghost use Rattle.engine.specs.Order.{Holding};
+ghost use Rattle.session.specs.Owed.{Begun};
+ghost use Rattle.pieces.specs.Feeding.{Wide, Settled, Tests, Decides};
 
-// A buffer of the session's is shorter than a line, a command's nodes, a table or what a line can print ask for.
+// A buffer is shorter than a line, a command's nodes, a table, the engine or what a line can print asks for.
 pub fn is_narrow(
     words: &[u64],
     window: &[u8],
     parts: &[u8],
     part_owns: &[u64],
+    held: &[u8],
+    held_owns: &[u64],
+    sets: &[u64],
+    before: &[u64],
     out: &[u8],
-) -> bool {
+) -> bool
+    ensures { λ r. ⌜ Tests (not r) (Wide (now (words .entry)) (now (window .entry)) (now (parts .entry)) (now («part_owns» .entry)) (lent (now (held .entry)) (now («held_owns» .entry)) (now (sets .entry)) (now (before .entry))) (now (out .entry))) ⌝ }
+{
     if words.len() < 2657 {
         return true;
     }
@@ -34,11 +51,26 @@ pub fn is_narrow(
     if part_owns.len() < 513 {
         return true;
     }
+    if held.len() < 512 {
+        return true;
+    }
+    if held_owns.len() < 512 {
+        return true;
+    }
+    if sets.len() < 4096 {
+        return true;
+    }
+    if before.len() < 4096 {
+        return true;
+    }
     out.len() < 131_072
 }
 
 // Whether the begun line has room and no end yet.
-pub fn is_begun(window: &[u8], begun: usize) -> bool {
+pub fn is_begun(window: &[u8], begun: usize) -> bool
+    requires { ⌜ 29 ≤ length (now window) ⌝ }
+    ensures { λ r. ⌜ Tests r ((begun ≤ 28) × Begun (take begun (now (window .entry)))) ⌝ }
+{
     if 28 < begun {
         return false;
     }
@@ -52,8 +84,10 @@ pub fn is_begun(window: &[u8], begun: usize) -> bool {
     true
 }
 
-// The expected frames are the same.
-fn is_same(a: Expected, b: Expected) -> bool {
+// The same frame of a table is expected.
+fn is_same(a: Expected, b: Expected) -> bool
+    ensures { λ r. ⌜ Tests r ((a ≡ b) × (isOn a ≡ true)) ⌝ }
+{
     match a {
         Expected::AtHeader => {
             if let Expected::AtHeader = b {
@@ -75,7 +109,13 @@ fn is_same(a: Expected, b: Expected) -> bool {
         }
         Expected::AtEquation(p, q, k) => {
             if let Expected::AtEquation(p2, q2, k2) = b {
-                return p == p2 && q == q2 && k == k2;
+                if p != p2 {
+                    return false;
+                }
+                if q != q2 {
+                    return false;
+                }
+                return k == k2;
             }
             false
         }
@@ -84,7 +124,10 @@ fn is_same(a: Expected, b: Expected) -> bool {
 }
 
 // The judgement of one frame of a table.
-fn judge_at(table: &[u64; 2657], expected: Expected) -> Verdict {
+fn judge_at(table: &[u64; 2657], expected: Expected) -> Verdict
+    requires { ⌜ Awaits (now table) expected ⌝ }
+    ensures { λ r. ⌜ Decides r ((isOn expected ≡ true) × (refusalAt (now (table .entry)) (entryOf expected) ≡ 0)) ⌝ }
+{
     match expected {
         Expected::AtHeader => judge_header(table),
         Expected::AtSymbol(s) => judge_symbol(table, s),
@@ -95,7 +138,9 @@ fn judge_at(table: &[u64; 2657], expected: Expected) -> Verdict {
 }
 
 // The frames of a table before the one that is expected: 1 to 5 at the first that is refused, 11 where no walk comes to it.
-fn judge_so_far(table: &[u64; 2657], expected: Expected) -> Verdict {
+fn judge_so_far(table: &[u64; 2657], expected: Expected) -> Verdict
+    ensures { λ r. ⌜ Decides r (Sofar (now (table .entry)) expected × (isOn expected ≡ true)) ⌝ }
+{
     let mut x = Expected::AtHeader;
     let mut still: usize = 2657;
     while 0 < still {
@@ -123,7 +168,9 @@ fn judge_kept(
     held_owns: &[u64],
     sets: &[u64],
     before: &[u64],
-) -> Verdict {
+) -> Verdict
+    ensures { λ r. ⌜ Decides r (Holding (now (table .entry)) (lent (now (held .entry)) (now («held_owns» .entry)) (now (sets .entry)) (now (before .entry))) «record») ⌝ }
+{
     match judge_ground(table, record, held, held_owns, sets, before) {
         Verdict::Sound => {
             if record.held {
@@ -144,7 +191,10 @@ pub fn judge_state(
     held_owns: &[u64],
     sets: &[u64],
     before: &[u64],
-) -> Verdict {
+) -> Verdict
+    requires { ⌜ 29 ≤ length (now window) ⌝ }
+    ensures { λ r. ⌜ Decides r (Settled state (now (table .entry)) (now (window .entry)) (lent (now (held .entry)) (now («held_owns» .entry)) (now (sets .entry)) (now (before .entry)))) ⌝ }
+{
     if !is_begun(window, state.begun) {
         return Verdict::Refused(Refusal::Fields);
     }

@@ -1,13 +1,16 @@
 // However the bytes arrive: a session's text comes in pieces of any length, and the frames that it prints go out.
-mod feeding;
+mod copying;
+mod ending;
+mod gathering;
 mod judging;
 
-pub use feeding::feed;
-pub use feeding::finish;
+pub use ending::finish;
 use frames::Expected;
 use refusal::Refusal;
 use session::Mode;
 use update::Record;
+ghost use mathlib.Core.Path.{_≡_};
+ghost use Rattle.pieces.specs.Feeding.{firstState};
 
 // Between two pieces: the mode, how many bytes of a line have come, the number of that line, and the update record.
 pub struct State {
@@ -29,7 +32,9 @@ pub enum Fed {
 }
 
 // A session that has read nothing.
-pub fn start() -> State {
+pub fn start() -> State
+    ensures { λ r. ⌜ r ≡ firstState ⌝ }
+{
     let record = Record::empty();
     State {
         mode: Mode::Table(Expected::AtHeader),
