@@ -1,3 +1,4 @@
+pub mod Numbers
 pub mod Printed
 pub mod Order
 pub mod Shown
