@@ -1,3 +1,4 @@
+pub mod Numbers
 pub mod Printed
 pub mod Order
 pub mod Shown
@@ -12,3 +13,10 @@ pub mod Trees
 pub mod Kept
 pub mod Tables
 pub mod Walked
+pub mod Growing
+pub mod Copying
+pub mod Planted
+pub mod Alike
+pub mod Afresh
+pub mod Reread
+pub mod Regrown

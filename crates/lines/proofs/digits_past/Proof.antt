@@ -8,8 +8,8 @@ use native.Mathlib.Nat.{add-zero, zero-add}
 use lib.ListN.{getD}
 use Rattle.lines.specs.Hex.{digitsAt, isHex}
 use Rattle.lines.proofs.Rows.{row-more, row-stop, row-none}
-use Rattle.lines.proofs.digits.Statement.{statement}
-use Rattle.lines.proofs.digits.Tie as tie
+use Rattle.lines.proofs.digits_past.Statement.{statement}
+use Rattle.lines.proofs.digits_past.Tie as tie
 
 abbrev Inv-loop : tie.InvT-loop
 Inv-loop text place i₀ i = (i ≤ 29) × (digitsAt 29 text place ≡ i + digitsAt (29 - i) text (place + i))
@@ -38,8 +38,8 @@ ends c =
     let e : 29 - i ≡ 0 = omega arith in
     omega (arith, c .before .loop .inv .1, ap (λ (m : ℕ). digitsAt m (a .text .now) (a .place + i)) e ∙ row-none (a .text .now) (a .place + i))
 
-pub digits-spec : {M : Type 1} → statement M
-digits-spec =
+pub digits-past-spec : {M : Type 1} → statement M
+digits-past-spec =
     tie.close
     (tie.spec
     Inv-loop
