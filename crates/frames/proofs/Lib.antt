@@ -12,3 +12,4 @@ pub mod Trees
 pub mod Kept
 pub mod Tables
 pub mod Walked
+pub mod Unique
