@@ -18,9 +18,11 @@ use Rattle.frames.specs.Text.{tableText, treeText}
 use Rattle.frames.specs.Written.{writtenOf, bufferAfter}
 use Rattle.frames.specs.Reading.{readingAt, tableAnswer, memoryAfter}
 
--- the frame with the place and the line behind it; the frame and the lent reader; the answer and the lent buffer or words
+-- the frame with the place and the line behind it; a reader at a place of a text, and one that moves on; the answer and the lent buffer or words
 pub record TextsOne : Type 0 where
   pub frame-at : (s : List ℕ) (place line : ℕ) → Only (λ (a : Step). a ≡ frameAt s place line)
+  pub reader-at : (r : Reader) → Only (λ (a : Reader). (a .text ≡ r .text) × ((a .place ≡ r .place) × (a .line ≡ r .line)))
+  pub next : (r : Reader) → Only (λ (a : Step). a ≡ frameAt (now (r .text)) (r .place) (r .line))
   pub advance : (r : Reader) → Only (λ (x : After Frame Reader). (x .answer ≡ frameAt (now (r .text)) (r .place) (r .line) .frame) × (x .found ≡ moved r))
   pub write-table : (t buffer : List ℕ) → Only (λ (x : After Written (List ℕ)).
       (x .answer ≡ writtenOf (judgeTable t) (length buffer) (tableText t)) × (x .found ≡ bufferAfter (judgeTable t) buffer (tableText t)))
