@@ -38,9 +38,8 @@ pub record AnswersOne : Type 0 where
 
 -- ---- the engine's calls, of any table, memory and record: answer, record and what is found in the buffers that the call may write
 
--- "load" and "replace" may write all four: `Begun` is the answer with the record
--- "step" and "run" may write the sets: `Stepped` and `Advanced` are the answer with the record; a run over a lent record and one by value promise the same
--- "read" may write nothing
+-- `load` and `replace` may write all four (`Begun` is the answer with the record); `step` and `run` the sets (`Stepped` and `Advanced` likewise; a run over a
+-- lent record and one by value promise the same); `read` none
 pub record LeavesOne (t held owns sets before : List ℕ) (r : Record) : Type 0 where
   pub load : (ns newOwns : List ℕ) → Only (λ (x : After Begun Memory). begun (x .answer) (x .found) ≡ loadCall t (lent held owns sets before) r ns newOwns)
   pub replace : (point : ℕ) (ns newOwns : List ℕ)
