@@ -5,6 +5,7 @@ pub mod Writing
 pub mod Taking
 pub mod Sofar
 pub mod Readings
+pub mod Unique
 pub mod Back
 pub mod Forth
 pub mod Bounds
@@ -12,4 +13,3 @@ pub mod Trees
 pub mod Kept
 pub mod Tables
 pub mod Walked
-pub mod Unique
