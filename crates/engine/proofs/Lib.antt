@@ -6,3 +6,4 @@ pub mod Alike
 pub mod Listed
 pub mod Preparing
 pub mod Stepping
+pub mod Unique
