@@ -4,6 +4,7 @@
 // slot is not declared; any other number from n on is no argument. Asked to `rank`, it prints how many circles there are; asked to `read`, how many slots.
 ghost use Prim.Native.Nat.{_+_, _*_, _<_, _≤_};
 ghost use mathlib.Core.Path.{_≡_};
+ghost use mathlib.Core.Bool.{cond};
 ghost use lib.ListN.{length};
 ghost use Rattle.circles.specs.Arrays.{Given, graphOf};
 ghost use Rattle.circles.specs.Graph.{Closed};
@@ -97,15 +98,18 @@ fn is_closed(n: usize, a: &[u16; 4096], b: &[u16; 4096]) -> bool
     true
 }
 
-// How many circles the graph has.
-fn circle_count(n: usize, a: &[u16; 4096], b: &[u16; 4096]) -> usize
+// How many circles the graph has, or how many slots. The arrays are made in both cases, so that the ranking is the only difference.
+fn counted(n: usize, a: &[u16; 4096], b: &[u16; 4096], rank: bool) -> usize
     requires { ⌜ Given n (now a) (now b) ⌝ }
-    ensures { λ r. ⌜ r ≡ length (ranked (graphOf n (now (a .entry)) (now (b .entry)))) ⌝ }
+    ensures { λ r. ⌜ r ≡ cond rank (length (ranked (graphOf n (now (a .entry)) (now (b .entry))))) n ⌝ }
 {
     let mut label = [0u16; 4096];
     let mut members = [0u16; 4096];
     let mut ends = [0u16; 4097];
-    circles::rank_circles(n, a, b, &mut label, &mut members, &mut ends)
+    if rank {
+        return circles::rank_circles(n, a, b, &mut label, &mut members, &mut ends);
+    }
+    n
 }
 
 fn show(n: usize) {
@@ -120,11 +124,7 @@ fn tell(n: usize, a: &[u16; 4096], b: &[u16; 4096], rank: bool)
         io::write_all(STDOUT_FILENO, b"a declared slot reads one that is not\n");
         return;
     }
-    if rank {
-        show(circle_count(n, a, b));
-        return;
-    }
-    show(n);
+    show(counted(n, a, b, rank));
 }
 
 fn answer(text: &[u8], rank: bool) {

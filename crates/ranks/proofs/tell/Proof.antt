@@ -4,14 +4,14 @@ use borrow.Author.Tests.{not-false}
 use Rattle.ranks.proofs.tell.Statement.{statement}
 use Rattle.ranks.proofs.tell.Tie as tie
 
-circle-count-requires : tie.Need-circle-count-requires
-circle-count-requires c κs =
-    let j = c .before .before in
+counted-requires : tie.Need-counted-requires
+counted-requires c κs =
+    let j = c .before in
     record {
       few = j .before .pre .0;
       long-a = j .before .pre .1;
       long-b = j .before .pre .2;
-      closed = j .is-closed .ensures .if-true (not-false (j .is-closed .result) (c .before .if1 .left));
+      closed = j .is-closed .ensures .if-true (not-false (j .is-closed .result) (c .if1 .left));
     }
 
 pub tell-spec : {M : Type 1} → statement M
@@ -22,8 +22,6 @@ tell-spec =
     (λ c. search needs)
     (λ c κs. search needs)
     (λ c. search needs)
-    circle-count-requires
-    (λ c κs. search needs)
-    (λ c. search needs)
+    counted-requires
     (λ c κs. search needs)
     (λ c. search needs))
