@@ -11,6 +11,8 @@ pub use opening::replace;
 pub use opening::replace_judged;
 pub use reading::read;
 use refusal::Verdict;
+pub use refuse::judge_look;
+pub use trees::is_declared;
 use update::Record;
 pub use working::prepare;
 pub use working::run;

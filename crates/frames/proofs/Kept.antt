@@ -78,13 +78,35 @@ through-next t (AtEquation p q k) m r b =
     (lt-or-ge (k + 1) (defined t p q))
 through-next t Ended m r b = tt
 
+-- the expected frame's words have their places in memory
+abbrev pub Placed : Expected → Type 0
+Placed AtHeader = Unit {0}
+Placed (AtSymbol s) = s < 32
+Placed (AtProduction p) = p < 64
+Placed (AtEquation p q k) = (p < 64) × ((q ≤ 4) × (k < 4))
+Placed Ended = Unit {0}
+
+pub placed-so : (t : List ℕ) (x : Expected) → Sofar t x → Placed x
+placed-so t AtHeader f = tt
+placed-so t (AtSymbol s) f = awaits-so t (AtSymbol s) f
+placed-so t (AtProduction p) f = awaits-so t (AtProduction p) f .0
+placed-so t (AtEquation p q k) f = let a = awaits-so t (AtEquation p q k) f in (a .0, (omega (arith, a .1 .0 .arity, a .1 .1 .0), a .1 .1 .1))
+placed-so t Ended f = tt
+
+pub placed-ready : (t : List ℕ) (x : Expected) → Ready t x → Placed x
+placed-ready t AtHeader r = tt
+placed-ready t (AtSymbol s) r = r
+placed-ready t (AtProduction p) r = r .0
+placed-ready t (AtEquation p q k) r = (r .0, (omega (arith, r .1 .0 .arity, r .1 .1 .0), r .1 .1 .1))
+placed-ready t Ended r = tt
+
 -- a store changes nothing before it
-pub before-kept : (t : List ℕ) (x : Expected) (w c m : ℕ) → Sofar t x → Before x m → getD t m 0 ≡ getD (store t x w c) m 0
-before-kept t AtHeader w c m f b = absurd b
-before-kept t (AtSymbol s) w c m f b = one-only t (1 + s) w m (inl b)
-before-kept t (AtProduction p) w c m f b = let a = awaits-so t (AtProduction p) f in one-only t (33 + p) w m (⊎-elim (λ h. inl h) (λ h. inr (omega (arith, h .0, a .0))) b)
-before-kept t (AtEquation p q k) w c m f b = let a = awaits-so t (AtEquation p q k) f in two-only t (2 * (20 * p + (4 * q + k))) w c m (⊎-elim (λ h. inl (omega (arith, a .0))) (λ h. inl (h .1)) b)
-before-kept t Ended w c m f b = refl
+pub before-kept : (t : List ℕ) (x : Expected) (w c m : ℕ) → Placed x → Before x m → getD t m 0 ≡ getD (store t x w c) m 0
+before-kept t AtHeader w c m a b = absurd b
+before-kept t (AtSymbol s) w c m a b = one-only t (1 + s) w m (inl b)
+before-kept t (AtProduction p) w c m a b = one-only t (33 + p) w m (⊎-elim (λ h. inl h) (λ h. inr (omega (arith, h .0))) b)
+before-kept t (AtEquation p q k) w c m a b = two-only t (2 * (20 * p + (4 * q + k))) w c m (⊎-elim (λ h. inl (omega (arith, a .0))) (λ h. inl (h .1)) b)
+before-kept t Ended w c m a b = refl
 
 -- the words of an expected frame
 abbrev pub WordsAt : List ℕ → Expected → ℕ → ℕ → Type 0
@@ -94,17 +116,16 @@ WordsAt u (AtProduction p) w c = getD u (33 + p) 0 ≡ w
 WordsAt u (AtEquation p q k) w c = (getD u (97 + 2 * (20 * p + (4 * q + k))) 0 ≡ w) × (getD u (98 + 2 * (20 * p + (4 * q + k))) 0 ≡ c)
 WordsAt u Ended w c = Unit {0}
 
-pub stored-words : (t : List ℕ) (x : Expected) (w c : ℕ) → length t ≡ 2657 → Sofar t x → WordsAt (store t x w c) x w c
-stored-words t AtHeader w c l f = getD-set-same t 0 w 0 (omega arith)
-stored-words t (AtSymbol s) w c l f = let a = awaits-so t (AtSymbol s) f in getD-set-same t (1 + s) w 0 (omega arith)
-stored-words t (AtProduction p) w c l f = let a = awaits-so t (AtProduction p) f in getD-set-same t (33 + p) w 0 (omega (arith, a .0))
-stored-words t (AtEquation p q k) w c l f =
-    let a = awaits-so t (AtEquation p q k) f in
-    let r : 20 * p + (4 * q + k) < 1280 = omega (arith, a .0, a .1 .0 .arity, a .1 .1) in
+pub stored-words : (t : List ℕ) (x : Expected) (w c : ℕ) → length t ≡ 2657 → Placed x → WordsAt (store t x w c) x w c
+stored-words t AtHeader w c l a = getD-set-same t 0 w 0 (omega arith)
+stored-words t (AtSymbol s) w c l a = getD-set-same t (1 + s) w 0 (omega arith)
+stored-words t (AtProduction p) w c l a = getD-set-same t (33 + p) w 0 (omega arith)
+stored-words t (AtEquation p q k) w c l a =
+    let r : 20 * p + (4 * q + k) < 1280 = omega (arith, a .0, a .1 .0, a .1 .1) in
     let i : ℕ = 97 + 2 * (20 * p + (4 * q + k)) in
     let j : ℕ = 98 + 2 * (20 * p + (4 * q + k)) in
     (getD-set-other (set t i w) j i c 0 (λ e. omega arith) ∙ getD-set-same t i w 0 (omega arith), getD-set-same (set t i w) j c 0 (omega (arith, length-set t i w)))
-stored-words t Ended w c l f = tt
+stored-words t Ended w c l a = tt
 
 pub words-same : (t u : List ℕ) (x : Expected) (w c : ℕ) → ((m : ℕ) → Through x m → getD t m 0 ≡ getD u m 0) → WordsAt t x w c → WordsAt u x w c
 words-same t u AtHeader w c same e = sym (same 0 (omega arith)) ∙ e
@@ -115,14 +136,14 @@ words-same t u (AtEquation p q k) w c same e =
 words-same t u Ended w c same e = tt
 
 -- the frame that those words show
-header-is : (u : List ℕ) (a b : ℕ) → getD u 0 0 ≡ a * 256 + b → b < 2 ^ 8 → shown u header ≡ Header a b
+pub header-is : (u : List ℕ) (a b : ℕ) → getD u 0 0 ≡ a * 256 + b → b < 2 ^ 8 → shown u header ≡ Header a b
 unfolding shown symbolCount productionCount
 header-is u a b e h =
     let x : getD u 0 0 / 256 ≡ a = omega arith in
     let y : getD u 0 0 % 256 ≡ b = omega arith in
     λ i. Header (x i) (y i)
 
-symbol-is : (u : List ℕ) (s a b : ℕ) → getD u (1 + s) 0 ≡ a * 256 + b → b < 2 ^ 8 → shown u (symbol s) ≡ Symbol a b
+pub symbol-is : (u : List ℕ) (s a b : ℕ) → getD u (1 + s) 0 ≡ a * 256 + b → b < 2 ^ 8 → shown u (symbol s) ≡ Symbol a b
 unfolding shown synthesized inherited
 symbol-is u s a b e h =
     let x : getD u (1 + s) 0 / 256 ≡ a = omega arith in
@@ -137,7 +158,7 @@ module _ (u : List ℕ) (p l n : ℕ) (cs : Children) (e : getD u (33 + p) 0 ≡
   unfolding childCount
   count-is = let a = k .one in let b = k .two in let c = k .three in let d = k .four in omega arith
 
-  production-is : shown u (production p) ≡ Production l n cs
+  pub production-is : shown u (production p) ≡ Production l n cs
   unfolding shown leftOf childOf
   production-is =
       let a = k .one in
@@ -153,7 +174,7 @@ module _ (u : List ℕ) (p l n : ℕ) (cs : Children) (e : getD u (33 + p) 0 ≡
       let y : childCount u p ≡ n = count-is in
       rw y (λ i. Production (x i) n (record { one = kid-is 0 n (g / 16777216 % 256) (cs .one) v0 (k .none) i; two = kid-is 1 n (g / 65536 % 256) (cs .two) v1 (k .single) i; three = kid-is 2 n (g / 256 % 256) (cs .three) v2 (k .double) i; four = kid-is 3 n (g / 1 % 256) (cs .four) v3 (k .triple) i }))
 
-equation-is : (u : List ℕ) (p q k op x y z w c : ℕ) → getD u (97 + 2 * (20 * p + (4 * q + k))) 0 ≡ (((op * 256 + x) * 256 + y) * 256 + z) * 256 + w → getD u (98 + 2 * (20 * p + (4 * q + k))) 0 ≡ c
+pub equation-is : (u : List ℕ) (p q k op x y z w c : ℕ) → getD u (97 + 2 * (20 * p + (4 * q + k))) 0 ≡ (((op * 256 + x) * 256 + y) * 256 + z) * 256 + w → getD u (98 + 2 * (20 * p + (4 * q + k))) 0 ≡ c
     → x < 2 ^ 8 → y < 2 ^ 8 → z < 2 ^ 8 → w < 2 ^ 8 → shown u (equation p q k) ≡ Equation op (record { position = x; index = y }) (record { position = z; index = w }) c
 unfolding shown headAt constantAt ruleOf opNumber aField bField argument
 equation-is u p q k op x y z w c e d hx hy hz hw =

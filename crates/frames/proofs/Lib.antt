@@ -12,3 +12,10 @@ pub mod Trees
 pub mod Kept
 pub mod Tables
 pub mod Walked
+pub mod Growing
+pub mod Copying
+pub mod Planted
+pub mod Alike
+pub mod Afresh
+pub mod Reread
+pub mod Regrown

@@ -27,7 +27,7 @@ use Rattle.frames.proofs.Readings.{store-length, words-length}
 use Rattle.frames.proofs.Forth.{frame-forth}
 use Rattle.frames.proofs.Bounds.{Bounded, bounded}
 use Rattle.frames.proofs.Trees.{join-parts}
-use Rattle.frames.proofs.Kept.{Before, Through, before-through, through-next, before-kept, WordsAt, stored-words, words-same, fits-of, shown-is, next-alike, valid-alike, ready-after}
+use Rattle.frames.proofs.Kept.{Before, Through, before-through, through-next, placed-so, before-kept, WordsAt, stored-words, words-same, fits-of, shown-is, next-alike, valid-alike, ready-after}
 
 -- what was read from an expected frame on: the words before it are kept, and its text is that of the table that came of it
 pub record Rest (t : List ℕ) (x : Expected) (s : List ℕ) (place : ℕ) (u : List ℕ) (end : ℕ) : Type 0 where
@@ -61,8 +61,8 @@ module _ (t : List ℕ) (x : Expected) (s : List ℕ) (place line : ℕ) (u : Li
   core ty z r =
       let ready : Ready t′ x = ready-after t x (wordOf f) (constantOf f) so z in
       let through : (m : ℕ) → Through x m → getD t′ m 0 ≡ getD u m 0 = λ m b. r .kept m (through-next t′ x m ready b) in
-      let kept : (m : ℕ) → Before x m → getD t m 0 ≡ getD u m 0 = λ m b. before-kept t x (wordOf f) (constantOf f) m so b ∙ through m (before-through x m b) in
-      let own : WordsAt t′ x (wordOf f) (constantOf f) = stored-words t x (wordOf f) (constantOf f) len so in
+      let kept : (m : ℕ) → Before x m → getD t m 0 ≡ getD u m 0 = λ m b. before-kept t x (wordOf f) (constantOf f) m (placed-so t x so) b ∙ through m (before-through x m b) in
+      let own : WordsAt t′ x (wordOf f) (constantOf f) = stored-words t x (wordOf f) (constantOf f) len (placed-so t x so) in
       let b : Bounded f = bounded s place line in
       let fits : Fits f = fits-of t′ x f ty b own ready in
       let shown : textAt u x ≡ textOf f = shown-is u x f ty b (words-same t′ u x (wordOf f) (constantOf f) through own) in

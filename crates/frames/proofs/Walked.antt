@@ -12,12 +12,12 @@ use Rattle.frames.specs.declared.Expected.the-variants.{AtHeader, AtSymb
 use Rattle.frames.proofs.Order.{Valid, restOf, entries, rest-next}
 use Rattle.frames.proofs.Writing.{still-valid}
 
-no-frames : (xs : List Frame) → length xs ≡ 0 → xs ≡ []
+pub no-frames : (xs : List Frame) → length xs ≡ 0 → xs ≡ []
 no-frames [] e = refl
 no-frames (x ∷ xs) e = absurd (omega arith)
 
 -- an expected frame stands first
-stands : (t : List ℕ) (x : Expected) → Valid t x → isOn x ≡ true → restOf t x ≡ entryOf x ∷ restOf t (nextOf t x)
+pub stands : (t : List ℕ) (x : Expected) → Valid t x → isOn x ≡ true → restOf t x ≡ entryOf x ∷ restOf t (nextOf t x)
 stands t AtHeader v o = rest-next t AtHeader v
 stands t (AtSymbol s) v o = rest-next t (AtSymbol s) v
 stands t (AtProduction p) v o = rest-next t (AtProduction p) v

@@ -8,3 +8,4 @@ pub mod Moved
 pub mod Reading
 pub mod Laws
 pub mod Planting
+pub mod Growing

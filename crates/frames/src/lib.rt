@@ -1,4 +1,5 @@
 // Frames of text: one a line. Tables and trees to and from text, and what a session prints.
+mod grow;
 mod kinds;
 mod out;
 mod plant;
@@ -7,6 +8,7 @@ mod walk;
 mod whole;
 mod write;
 
+pub use grow::read_tree;
 pub use kinds::frame_at;
 pub use out::put_done;
 pub use out::put_refusal;
@@ -111,6 +113,19 @@ pub enum Taken {
 pub enum ReadTable {
     Read { place: usize, line: u32 },
     Refused { refusal: Refusal, line: u32 },
+}
+
+// How many nodes were read, where the text behind them starts, and its line; or why no tree was read, and the line.
+pub enum ReadTree {
+    Read {
+        count: usize,
+        place: usize,
+        line: u32,
+    },
+    Refused {
+        refusal: Refusal,
+        line: u32,
+    },
 }
 
 // A reader: the lent text, the place of the next line and its number.
