@@ -1,5 +1,6 @@
 """What the counting scripts share: instruction counts by callgrind, and tables in Markdown."""
 
+import os
 import shutil
 import subprocess
 import sys
@@ -8,6 +9,9 @@ from pathlib import Path
 ROOT = Path(__file__).resolve().parent.parent
 ROOM = ROOT / "target" / "bench"
 BUILT = ROOT / "target" / "cargo"
+# A repeated string instruction is one for the machine, and callgrind counts it once a byte. So the
+# C library is told to fill and copy blocks by vector instructions, which count one each.
+PLAIN = "glibc.cpu.x86_rep_stosb_threshold=1000000000:glibc.cpu.x86_rep_movsb_threshold=1000000000"
 
 
 def stop(message, status=2):
@@ -42,13 +46,13 @@ def proved(name):
     return program
 
 
-def count(name, program, label, text, *words):
+def count(name, program, label, text, *words, blocks=PLAIN):
     """The instructions that a program takes for a text, and its answer."""
     ROOM.mkdir(parents=True, exist_ok=True)
     profile = ROOM / f"{label}.{name}.callgrind"
     command = ["valgrind", "--quiet", "--tool=callgrind", f"--callgrind-out-file={profile}"]
     run = subprocess.run([*command, program, *words], input=text, stdout=subprocess.PIPE,
-                         stderr=subprocess.PIPE)
+                         stderr=subprocess.PIPE, env={**os.environ, "GLIBC_TUNABLES": blocks})
     if run.returncode != 0:
         stop(f"the {name} ends with status {run.returncode} on {label}", 1)
     for line in profile.read_text().splitlines():

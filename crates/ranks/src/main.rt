@@ -1,7 +1,8 @@
 // Ranks the circles of a graph on standard input, so that the ranking can be counted by itself.
 //
 // The graph: the number n of its slots, then for each slot its two arguments a and b, all in two bytes, the high one first. 65534 for a says that the
-// slot is not declared; any other number from n on is no argument. Asked to `rank`, it prints how many circles there are; asked to `read`, how many slots.
+// slot is not declared; any other number from n on is no argument. Asked to `rank`, it prints how many circles there are and what the lists
+// of members and of ends have in the middle; asked to `read`, how many slots, and zeros.
 ghost use Prim.Native.Nat.{_+_, _*_, _<_, _≤_};
 ghost use mathlib.Core.Path.{_≡_};
 ghost use mathlib.Core.Bool.{cond};
@@ -98,22 +99,51 @@ fn is_closed(n: usize, a: &[u16; 4096], b: &[u16; 4096]) -> bool
     true
 }
 
-// How many circles the graph has, or how many slots. The arrays are made in both cases, so that the ranking is the only difference.
-fn counted(n: usize, a: &[u16; 4096], b: &[u16; 4096], rank: bool) -> usize
+// How many circles or slots there are, and what the lists of members and of ends have in the middle.
+struct Found {
+    count: usize,
+    member: u16,
+    end: u16,
+}
+
+fn member_at(members: &[u16; 4096], i: usize) -> u16
+    requires { ⌜ i < 4096 ⌝ }
+{
+    members[i]
+}
+
+fn end_at(ends: &[u16; 4097], i: usize) -> u16
+    requires { ⌜ i < 4097 ⌝ }
+{
+    ends[i]
+}
+
+// Counts the circles of the graph, or its slots. The arrays are made in both cases and looked into, so that the ranking is the only difference and all of it is done.
+fn counted(n: usize, a: &[u16; 4096], b: &[u16; 4096], rank: bool) -> Found
     requires { ⌜ Given n (now a) (now b) ⌝ }
-    ensures { λ r. ⌜ r ≡ cond rank (length (ranked (graphOf n (now (a .entry)) (now (b .entry))))) n ⌝ }
+    ensures { λ r. ⌜ r .count ≡ cond rank (length (ranked (graphOf n (now (a .entry)) (now (b .entry))))) n ⌝ }
 {
     let mut label = [0u16; 4096];
     let mut members = [0u16; 4096];
     let mut ends = [0u16; 4097];
+    let middle = n / 2;
     if rank {
-        return circles::rank_circles(n, a, b, &mut label, &mut members, &mut ends);
+        let count = circles::rank_circles(n, a, b, &mut label, &mut members, &mut ends);
+        return Found {
+            count: count,
+            member: member_at(&members, middle),
+            end: end_at(&ends, middle),
+        };
     }
-    n
+    Found {
+        count: n,
+        member: member_at(&members, middle),
+        end: end_at(&ends, middle),
+    }
 }
 
-fn show(n: usize) {
-    io::print_decimal(STDOUT_FILENO, n as u64);
+fn show(n: u64) {
+    io::print_decimal(STDOUT_FILENO, n);
     io::write_all(STDOUT_FILENO, b"\n");
 }
 
@@ -124,7 +154,10 @@ fn tell(n: usize, a: &[u16; 4096], b: &[u16; 4096], rank: bool)
         io::write_all(STDOUT_FILENO, b"a declared slot reads one that is not\n");
         return;
     }
-    show(counted(n, a, b, rank));
+    let c = counted(n, a, b, rank);
+    show(c.count as u64);
+    show(c.member as u64);
+    show(c.end as u64);
 }
 
 fn answer(text: &[u8], rank: bool) {

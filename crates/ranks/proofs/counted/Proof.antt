@@ -4,7 +4,9 @@ use Rattle.ranks.proofs.counted.Statement.{statement}
 use Rattle.ranks.proofs.counted.Tie as tie
 
 returns : tie.Need-returns
-returns c = rw (c .before .before .before .before .before .before .before .if1 .taken) (c .before .before .before .rank-circles .ensures .counted)
+returns c =
+    rw (c .before .before .before .before .before .before .before .before .before .before .before .if1 .taken)
+    (c .before .before .before .before .before .before .before .rank-circles .ensures .counted)
 
 pub counted-spec : {M : Type 1} → statement M
 counted-spec =
@@ -14,5 +16,9 @@ counted-spec =
     (λ c. search needs)
     (λ c. search needs)
     (λ c κs. search needs)
+    (λ c κs. search needs)
+    (λ c κs. search needs)
     returns
+    (λ c κs. search needs)
+    (λ c κs. search needs)
     (λ c. search needs))

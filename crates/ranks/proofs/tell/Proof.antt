@@ -24,4 +24,8 @@ tell-spec =
     (λ c. search needs)
     counted-requires
     (λ c κs. search needs)
+    (λ c. search needs)
+    (λ c κs. search needs)
+    (λ c. search needs)
+    (λ c κs. search needs)
     (λ c. search needs))
