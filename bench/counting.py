@@ -61,6 +61,14 @@ def count(name, program, label, text, *words, blocks=PLAIN):
     stop(f"callgrind left no total in {profile}")
 
 
+def size_of(twin, text):
+    """Instances and evaluations of a session of one load and a dump."""
+    answer = subprocess.run([twin], input=text, stdout=subprocess.PIPE, check=True).stdout
+    lines = answer.splitlines()
+    done = next(line for line in lines if line.startswith(b"12"))
+    return sum(line.startswith(b"13") for line in lines), int(done[6:14], 16)
+
+
 def table(head, rows):
     """Prints a Markdown table; the first column is text, the others are numbers."""
     widths = [max(len(row[i]) for row in [head, *rows]) for i in range(len(head))]
