@@ -3,7 +3,8 @@ ghost use Prim.Native.Nat.{ℕ, _+_, _*_, _<_, _≤_};
 ghost use lib.ListN.{getD, length};
 ghost use Rattle.circles.specs.Arrays.{Given, graphOf, over};
 ghost use Rattle.circles.specs.Ranked.{labelsOf};
-ghost use Rattle.circles.specs.Labels.{Reps, Stale, Took, LowOf, Lowered, Kin};
+ghost use Rattle.circles.specs.Labels.{Reps, Stale, Took, Left, Unlabelled, LowOf, Lowered, Kin};
+ghost use Rattle.circles.specs.Turns.{Says};
 ghost use Rattle.circles.specs.Search.{Arg, argOf, placeOf, stamped, Visited, Clean, Found, Lone, Linked, Chained, Swept, Blank, Room, Back};
 use crate::order::leaving_order;
 
@@ -274,6 +275,35 @@ fn label_in_order(
     }
 }
 
+// Whether slot i is declared and has no label.
+fn is_left(a: &[u16; 4096], rep: &[u16; 4096], i: usize) -> bool
+    requires { ⌜ i < 4096 ⌝ }
+    ensures { λ r. ⌜ Says (Left (now (a .entry)) (now (rep .entry)) i) r ⌝ }
+{
+    if a[i] == 65534 {
+        return false;
+    }
+    if rep[i] == 65535 {
+        return true;
+    }
+    false
+}
+
+// The first such slot from the place given on, or what is past the end.
+fn unlabelled(n: usize, a: &[u16; 4096], rep: &[u16; 4096], from: usize) -> usize
+    requires { ⌜ (n ≤ 4096) × (from ≤ n) ⌝ }
+    ensures { λ r. ⌜ Unlabelled n (now (a .entry)) (now (rep .entry)) from r ⌝ }
+{
+    let mut i = from;
+    while i < n {
+        if is_left(a, rep, i) {
+            return i;
+        }
+        i += 1;
+    }
+    i
+}
+
 // Labels what is left: then every circle of declared slots has its label.
 fn label_rest(
     n: usize,
@@ -289,10 +319,10 @@ fn label_rest(
     requires { ⌜ Reps n (now a) (now b) (now rep) × Stale n (now seen) (now rep) × (length (now queue) ≡ 4096) ⌝ }
     ensures { λ _. ⌜ Reps n (now (a .entry)) (now (b .entry)) (now (rep .exit)) × ((y : ℕ) → y < n → (getD (now (a .entry)) y 0 ≡ 65534 → ⊥) → getD (now (rep .exit)) y 0 < n) ⌝ }
 {
-    let mut j: usize = 0;
+    let mut j = unlabelled(n, a, &*rep, 0);
     while j < n {
-        try_circle(n, a, b, first, next, j as u16, rep, seen, queue);
-        j += 1;
+        take_circle(n, a, b, first, next, j as u16, rep, seen, queue);
+        j = unlabelled(n, a, &*rep, j + 1);
     }
 }
 
