@@ -1,8 +1,6 @@
 // The engine's calls, each whole: for any table, tree, record and memory.
 mod opening;
 mod reading;
-mod refuse;
-mod trees;
 mod working;
 
 pub use opening::load;
