@@ -1,5 +1,4 @@
 pub mod Orders
-pub mod Tests
 pub mod Answers
 pub mod Parts
 pub mod Alike
