@@ -1,5 +1,5 @@
 -- What the labelling of circles says as it goes. Assumes nothing.
-use Prim.Native.Nat.{ℕ, _+_, _<_, _≤_}
+use Prim.Native.Nat.{ℕ, _+_, _-_, _<_, _≤_}
 use mathlib.Core.Path.{_≡_}
 use mathlib.Core.List.{List}
 use mathlib.Core.Logic.{_⊎_}
@@ -30,6 +30,23 @@ pub record Took (n : ℕ) (a b : List ℕ) (x : ℕ) (r r′ m′ q′ : List �
   pub room : length q′ ≡ 4096
   pub kept : (y : ℕ) → getD r y 0 < n → getD r′ y 0 < n
   pub here : x < n → (getD a x 0 ≡ 65534 → ⊥) → getD r′ x 0 < n
+
+-- y is declared and has no label
+abbrev pub Left : List ℕ → List ℕ → ℕ → Type 0
+Left a rep y = (getD a y 0 ≡ 65534 → ⊥) × (getD rep y 0 ≡ 65535)
+
+-- r is the first such slot from i on, or past the end
+pub record Unlabelled (n : ℕ) (a rep : List ℕ) (i r : ℕ) : Type 0 where
+  pub from : i ≤ r
+  pub within : r ≤ n
+  pub skip : (y : ℕ) → i ≤ y → y < r → Left a rep y → ⊥
+  pub hit : r < n → Left a rep r
+
+-- x is to be tried next: all from j up to j′ but x have their label, and the order or the search goes on
+pub record Seeded (n : ℕ) (a rep : List ℕ) (i j x i′ j′ : ℕ) : Type 0 where
+  pub onward : (n - i′) + (n - j′) < (n - i) + (n - j)
+  pub within : j′ ≤ n
+  pub skip : (y : ℕ) → j ≤ y → y < j′ → Left a rep y → x ≡ y
 
 -- l is the least slot of the label r, or none where r is none
 pub record LowOf (n : ℕ) (low : List ℕ) (r l : ℕ) : Type 0 where

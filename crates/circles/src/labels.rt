@@ -3,7 +3,8 @@ ghost use Prim.Native.Nat.{ℕ, _+_, _*_, _<_, _≤_};
 ghost use lib.ListN.{getD, length};
 ghost use Rattle.circles.specs.Arrays.{Given, graphOf, over};
 ghost use Rattle.circles.specs.Ranked.{labelsOf};
-ghost use Rattle.circles.specs.Labels.{Reps, Stale, Took, LowOf, Lowered, Kin};
+ghost use Rattle.circles.specs.Labels.{Reps, Stale, Took, Left, Unlabelled, Seeded, LowOf, Lowered, Kin};
+ghost use Rattle.circles.specs.Turns.{Says};
 ghost use Rattle.circles.specs.Search.{Arg, argOf, placeOf, stamped, Visited, Clean, Found, Lone, Linked, Chained, Swept, Blank, Room, Back};
 use crate::order::leaving_order;
 
@@ -250,8 +251,78 @@ fn try_circle(
     take_circle(n, a, b, first, next, x, rep, seen, queue);
 }
 
-// Labels the circles of what the order lists from the place given on, whatever that is, each by one of its own.
-fn label_in_order(
+// Whether slot i is declared and has no label.
+fn is_left(a: &[u16; 4096], rep: &[u16; 4096], i: usize) -> bool
+    requires { ⌜ i < 4096 ⌝ }
+    ensures { λ r. ⌜ Says (Left (now (a .entry)) (now (rep .entry)) i) r ⌝ }
+{
+    if a[i] == 65534 {
+        return false;
+    }
+    if rep[i] == 65535 {
+        return true;
+    }
+    false
+}
+
+// The first such slot from the place given on, or what is past the end.
+fn unlabelled(n: usize, a: &[u16; 4096], rep: &[u16; 4096], from: usize) -> usize
+    requires { ⌜ (n ≤ 4096) × (from ≤ n) ⌝ }
+    ensures { λ r. ⌜ Unlabelled n (now (a .entry)) (now (rep .entry)) from r ⌝ }
+{
+    let mut i = from;
+    while i < n {
+        if is_left(a, rep, i) {
+            return i;
+        }
+        i += 1;
+    }
+    i
+}
+
+// What is to be tried next, and where the order and the search for what is left stand then.
+struct Seed {
+    x: u16,
+    i: usize,
+    j: usize,
+}
+
+// First what the order lists, whatever that is; then what is left.
+fn next_seed(
+    n: usize,
+    a: &[u16; 4096],
+    order: &[u16; 4096],
+    rep: &[u16; 4096],
+    i: usize,
+    j: usize,
+) -> Seed
+    requires { ⌜ (n ≤ 4096) × (j < n) ⌝ }
+    ensures { λ r. ⌜ Seeded n (now (a .entry)) (now (rep .entry)) i j (r .x) (r .i) (r .j) ⌝ }
+{
+    if i < n {
+        return Seed {
+            x: order[i],
+            i: i + 1,
+            j: j,
+        };
+    }
+    let k = unlabelled(n, a, rep, j);
+    if n <= k {
+        return Seed {
+            x: 65535,
+            i: i,
+            j: n,
+        };
+    }
+    Seed {
+        x: k as u16,
+        i: i,
+        j: k + 1,
+    }
+}
+
+// Labels every circle of declared slots, each by one of its own, in the order given from a place on and then in any.
+fn label_circles(
     n: usize,
     a: &[u16; 4096],
     b: &[u16; 4096],
@@ -265,34 +336,15 @@ fn label_in_order(
 )
     requires { ⌜ (n ≤ 4096) × Chained (argOf (now a) (now b)) (2 * n) n (now first) (now next) ⌝ }
     requires { ⌜ Blank n (now rep) × Blank n (now seen) × (length (now queue) ≡ 4096) ⌝ }
-    ensures { λ _. ⌜ Reps n (now (a .entry)) (now (b .entry)) (now (rep .exit)) × Stale n (now (seen .exit)) (now (rep .exit)) × (length (now (queue .exit)) ≡ 4096) ⌝ }
-{
-    let mut i = from;
-    while i < n {
-        try_circle(n, a, b, first, next, order[i], rep, seen, queue);
-        i += 1;
-    }
-}
-
-// Labels what is left: then every circle of declared slots has its label.
-fn label_rest(
-    n: usize,
-    a: &[u16; 4096],
-    b: &[u16; 4096],
-    first: &[u16; 4096],
-    next: &[u16; 8192],
-    rep: &mut [u16; 4096],
-    seen: &mut [u16; 4096],
-    queue: &mut [u16; 4096],
-)
-    requires { ⌜ (n ≤ 4096) × Chained (argOf (now a) (now b)) (2 * n) n (now first) (now next) ⌝ }
-    requires { ⌜ Reps n (now a) (now b) (now rep) × Stale n (now seen) (now rep) × (length (now queue) ≡ 4096) ⌝ }
     ensures { λ _. ⌜ Reps n (now (a .entry)) (now (b .entry)) (now (rep .exit)) × ((y : ℕ) → y < n → (getD (now (a .entry)) y 0 ≡ 65534 → ⊥) → getD (now (rep .exit)) y 0 < n) ⌝ }
 {
+    let mut i = from;
     let mut j: usize = 0;
     while j < n {
-        try_circle(n, a, b, first, next, j as u16, rep, seen, queue);
-        j += 1;
+        let s = next_seed(n, a, order, &*rep, i, j);
+        i = s.i;
+        j = s.j;
+        try_circle(n, a, b, first, next, s.x, rep, seen, queue);
     }
 }
 
@@ -339,7 +391,7 @@ pub fn circle_labels(
     let from = leaving_order(n, a, b, &mut order, &mut queue, &mut stage);
     let mut rep = [65535u16; 4096];
     let mut seen = [65535u16; 4096];
-    label_in_order(
+    label_circles(
         n,
         a,
         b,
@@ -351,7 +403,6 @@ pub fn circle_labels(
         &mut seen,
         &mut queue,
     );
-    label_rest(n, a, b, first, next, &mut rep, &mut seen, &mut queue);
     let mut low = [65535u16; 4096];
     chain_members(n, &rep, &mut low, after);
     least_labels(n, &rep, &low, label);

@@ -3,31 +3,35 @@ ghost use Prim.Native.Nat.{ℕ, _<_, _≤_};
 ghost use lib.ListN.{length};
 use crate::labels::wide;
 
-// The next argument of v that the walk has not come to, or 65535. stage: 0 before the walk comes to a slot, then 1, 2 and 3 as its arguments are looked at.
+// The argument of v in x, where the walk is at the stage that looks at it and comes to it for the first time; else 65535. stage: 0 before the walk comes to a slot, then 1, 2 and 3 as its arguments are looked at.
+fn come_to(n: usize, x: &[u16; 4096], v: usize, at: u16, stage: &mut [u16; 4096]) -> u16
+    requires { ⌜ (v < n) × (n ≤ 4096) × (at < 3) ⌝ }
+{
+    if stage[v] != at {
+        return 65535;
+    }
+    stage[v] = at + 1;
+    let y = x[v];
+    let i = wide(y);
+    if n <= i {
+        return 65535;
+    }
+    if stage[i] != 0 {
+        return 65535;
+    }
+    stage[i] = 1;
+    y
+}
+
+// The next argument of v that the walk comes to, or 65535.
 fn unseen(n: usize, a: &[u16; 4096], b: &[u16; 4096], v: usize, stage: &mut [u16; 4096]) -> u16
     requires { ⌜ (v < n) × (n ≤ 4096) ⌝ }
 {
-    if stage[v] == 1 {
-        stage[v] = 2;
-        let y = a[v];
-        let i = wide(y);
-        if i < n {
-            if stage[i] == 0 {
-                return y;
-            }
-        }
+    let y = come_to(n, a, v, 1, stage);
+    if y != 65535 {
+        return y;
     }
-    if stage[v] == 2 {
-        stage[v] = 3;
-        let y = b[v];
-        let i = wide(y);
-        if i < n {
-            if stage[i] == 0 {
-                return y;
-            }
-        }
-    }
-    65535
+    come_to(n, b, v, 2, stage)
 }
 
 // A depth-first walk from the root along what is read: each slot goes into the order, from the end, as the walk leaves it. Where the order now begins.
@@ -59,12 +63,10 @@ fn walk(
             return at;
         }
         let w = unseen(n, a, b, v, stage);
-        let i = wide(w);
-        if i < n {
+        if wide(w) < n {
             if n <= top {
                 return at;
             }
-            stage[i] = 1;
             stack[top] = w;
             top += 1;
         } else {

@@ -1,8 +1,8 @@
 // The dump: the sets of the held tree, written as text.
-use engine::is_declared;
-use engine::judge_look;
 use frames::Written;
 use frames::put_set;
+use judging::is_declared;
+use judging::judge_look;
 use refusal::Refusal;
 use refusal::Verdict;
 use update::Record;

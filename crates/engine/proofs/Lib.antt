@@ -1,8 +1,8 @@
 pub mod Orders
-pub mod Tests
 pub mod Answers
 pub mod Parts
 pub mod Alike
 pub mod Listed
 pub mod Preparing
 pub mod Stepping
+pub mod Unique

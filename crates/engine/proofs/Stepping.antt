@@ -28,9 +28,9 @@ use Rattle.steps.specs.Says.{StepSays, RunSays}
 use Rattle.engine.specs.Lent.{stepped, advanced}
 use Rattle.engine.specs.Order.{Going}
 use Rattle.engine.specs.Prepared.{Holds}
-use Rattle.engine.proofs.Orders.{step-none}
+use Rattle.judging.proofs.Orders.{step-none}
 use Rattle.engine.proofs.Answers.{by, left-carried}
-use Rattle.engine.proofs.Parts.{and-first}
+use Rattle.judging.proofs.Parts.{and-first}
 use Rattle.engine.proofs.Alike.{step-same, run-same}
 
 module _ (t : List ℕ) (m : Memory) (r : Record) where

@@ -12,10 +12,7 @@ use Rattle.update.specs.declared.Record.{Record}
 use Rattle.update.specs.declared.Answer.{Answer}
 use Rattle.update.specs.declared.Run.{Run}
 use Rattle.engine.specs.declared.Begun.{Begun}
-
--- productions, own sets, sets and before values, as they are lent
-abbrev pub lent : List ℕ → List ℕ → List ℕ → List ℕ → Memory
-lent productions owns sets before = record { productions = productions; owns = owns; sets = sets; before = before }
+pub use Rattle.judging.specs.Lent.{lent}
 
 -- what document 01's numbers and values are, of each verdict of a load or a replacement
 abbrev pub openedSays : Verdict → Said Opened

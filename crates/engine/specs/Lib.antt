@@ -1,3 +1,4 @@
 pub mod Lent
 pub mod Order
 pub mod Prepared
+pub mod Unique

@@ -1,8 +1,6 @@
 // The engine's calls, each whole: for any table, tree, record and memory.
 mod opening;
 mod reading;
-mod refuse;
-mod trees;
 mod working;
 
 pub use opening::load;
@@ -11,11 +9,6 @@ pub use opening::replace;
 pub use opening::replace_judged;
 pub use reading::read;
 use refusal::Verdict;
-pub use refuse::judge_ground;
-pub use refuse::judge_holding;
-pub use refuse::judge_look;
-pub use refuse::judge_step;
-pub use trees::is_declared;
 use update::Record;
 pub use working::prepare;
 pub use working::run;

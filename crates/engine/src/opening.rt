@@ -1,11 +1,11 @@
 // Load and replacement: what opens an update.
 use crate::Begun;
-use crate::refuse::judge_ground;
-use crate::refuse::judge_load;
-use crate::refuse::judge_look;
-use crate::refuse::judge_part;
-use crate::refuse::judge_point;
-use crate::trees::part_of;
+use judging::judge_ground;
+use judging::judge_load;
+use judging::judge_look;
+use judging::judge_part;
+use judging::judge_point;
+use judging::part_of;
 use memory::placing::place_part;
 use memory::placing::place_tree;
 use refusal::Verdict;

@@ -1,6 +1,6 @@
 // Reading a set of the held tree.
-use crate::refuse::judge_look;
-use crate::trees::is_declared;
+use judging::is_declared;
+use judging::judge_look;
 use refusal::Refusal;
 use refusal::Verdict;
 use update::Reading;

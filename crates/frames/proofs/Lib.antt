@@ -1,3 +1,4 @@
+pub mod Numbers
 pub mod Printed
 pub mod Order
 pub mod Shown
@@ -5,6 +6,7 @@ pub mod Writing
 pub mod Taking
 pub mod Sofar
 pub mod Readings
+pub mod Unique
 pub mod Back
 pub mod Forth
 pub mod Bounds

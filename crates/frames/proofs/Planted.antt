@@ -11,7 +11,6 @@ use lib.ListN.{length, take}
 use lib.Seq.{sets}
 use Rattle.refusal.specs.Numbers.{numberOf, verdictOf}
 use Rattle.refusal.specs.declared.Refusal.{Refusal}
-use Rattle.refusal.specs.declared.Refusal.the-variants as why
 use Rattle.lines.proofs.Values.{lt-or-ge}
 use Rattle.table.specs.First.{orElse, firstOf}
 use Rattle.table.specs.Judge.{judgeTable}
@@ -25,29 +24,9 @@ use Rattle.frames.specs.Growing.{unless, roomRefusal, fitted, plantingAt
 use Rattle.frames.specs.Laws.{AllFit}
 use Rattle.frames.specs.declared.ReadTree.{ReadTree}
 use Rattle.frames.specs.declared.ReadTree.the-variants.{Read, Refused}
+use Rattle.frames.proofs.Numbers.{by-number}
 use Rattle.frames.proofs.Copying.{front}
 use Rattle.frames.proofs.Trees.{tree-forth}
-
--- a refusal by its number
-by-number : (r : Refusal) → refusalOf (numberOf r) ≡ r
-unfolding refusalOf
-by-number why.Count = refl
-by-number why.Symbol = refl
-by-number why.Start = refl
-by-number why.Form = refl
-by-number why.Argument = refl
-by-number why.Production = refl
-by-number why.Shape = refl
-by-number why.Size = refl
-by-number why.Point = refl
-by-number why.Busy = refl
-by-number why.Fields = refl
-by-number why.Undeclared = refl
-by-number why.Line = refl
-by-number why.Frame = refl
-by-number why.Buffer = refl
-by-number why.Absent = refl
-by-number why.Idle = refl
 
 some : (n start : ℕ) (x : Nodes) → 0 < n → unless n start x ≡ bad (refusalOf n) start
 some zero start x h = absurd (omega arith)

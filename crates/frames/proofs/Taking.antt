@@ -27,6 +27,8 @@ use Rattle.frames.specs.declared.Expected.{Expected}
 use Rattle.frames.specs.declared.Expected.the-variants.{AtHeader, AtSymbol, AtProduction, AtEquation, Ended}
 use Rattle.frames.specs.declared.Taken.{Taken}
 use Rattle.frames.specs.declared.Taken.the-variants.{Next, Stopped}
+use Rattle.refusal.proofs.Distinct.{number-low}
+use Rattle.frames.proofs.Numbers.{by-number}
 use Rattle.frames.proofs.Frame as F
 
 -- a frame of another type, by its tag
@@ -102,25 +104,12 @@ never-ended Dump = refl
 never-ended (Refused a b) = refl
 never-ended Over = refl
 
+judged-by : (n : ℕ) (next : Expected) (line : ℕ) → 0 < n → Stopped (refusalOf n) line ≡ judgedAt n next line
+judged-by zero next line h = absurd (omega arith)
+judged-by (suc n) next line h = refl
+
 stopped-by : (r : Refusal) (next : Expected) (line : ℕ) → Stopped r line ≡ judgedAt (numberOf r) next line
-unfolding refusalOf
-stopped-by why.Count next line = refl
-stopped-by why.Symbol next line = refl
-stopped-by why.Start next line = refl
-stopped-by why.Form next line = refl
-stopped-by why.Argument next line = refl
-stopped-by why.Production next line = refl
-stopped-by why.Shape next line = refl
-stopped-by why.Size next line = refl
-stopped-by why.Point next line = refl
-stopped-by why.Busy next line = refl
-stopped-by why.Fields next line = refl
-stopped-by why.Undeclared next line = refl
-stopped-by why.Line next line = refl
-stopped-by why.Frame next line = refl
-stopped-by why.Buffer next line = refl
-stopped-by why.Absent next line = refl
-stopped-by why.Idle next line = refl
+stopped-by r next line = ap (λ (q : Refusal). Stopped q line) (sym (by-number r)) ∙ judged-by (numberOf r) next line (number-low r)
 
 -- what is answered
 module _ (t : List ℕ) (x : Expected) (f : Frame) (line : ℕ) where

@@ -16,7 +16,7 @@ use Rattle.lines.proofs.Fields.{line-length}
 use Rattle.lines.proofs.Out.{sets-append}
 use Rattle.refusal.specs.Numbers.{numberOf}
 use Rattle.refusal.specs.declared.Refusal.{Refusal}
-use Rattle.refusal.specs.declared.Refusal.the-variants as why
+use Rattle.refusal.proofs.Distinct.{number-low}
 use Rattle.table.specs.Words.{symbolCount, productionCount, childCount, defined, ruleOf, headAt}
 use Rattle.table.specs.Equations.{opNumber}
 use Rattle.table.specs.Judge.{header, symbol, production, equation, judgeTable}
@@ -35,47 +35,23 @@ use Rattle.frames.specs.declared.Frame.the-variants.{Node, Load}
 use Rattle.frames.specs.declared.Written.the-variants.{Refused}
 use Rattle.frames.specs.declared.Expected.{Expected}
 use Rattle.frames.specs.declared.Expected.the-variants.{AtHeader, AtSymbol, AtProduction, AtEquation, Ended}
+use Rattle.frames.proofs.Numbers.{by-number}
 use Rattle.frames.proofs.Order.{Valid, restOf, entries, rest-next, text-next, next-valid}
 
 -- what is answered for a refusal, and what becomes of the buffer
+answer-by : (n room : ℕ) (text : List ℕ) → 0 < n → Refused (refusalOf n) ≡ writtenOf n room text
+answer-by zero room text h = absurd (omega arith)
+answer-by (suc n) room text h = refl
+
 pub refused-answer : (r : Refusal) (room : ℕ) (text : List ℕ) → Refused r ≡ writtenOf (numberOf r) room text
-unfolding refusalOf
-refused-answer why.Count room text = refl
-refused-answer why.Symbol room text = refl
-refused-answer why.Start room text = refl
-refused-answer why.Form room text = refl
-refused-answer why.Argument room text = refl
-refused-answer why.Production room text = refl
-refused-answer why.Shape room text = refl
-refused-answer why.Size room text = refl
-refused-answer why.Point room text = refl
-refused-answer why.Busy room text = refl
-refused-answer why.Fields room text = refl
-refused-answer why.Undeclared room text = refl
-refused-answer why.Line room text = refl
-refused-answer why.Frame room text = refl
-refused-answer why.Buffer room text = refl
-refused-answer why.Absent room text = refl
-refused-answer why.Idle room text = refl
+refused-answer r room text = ap Refused (sym (by-number r)) ∙ answer-by (numberOf r) room text (number-low r)
+
+buffer-by : (n : ℕ) (buffer text : List ℕ) → 0 < n → buffer ≡ bufferAfter n buffer text
+buffer-by zero buffer text h = absurd (omega arith)
+buffer-by (suc n) buffer text h = refl
 
 pub refused-buffer : (r : Refusal) (buffer text : List ℕ) → buffer ≡ bufferAfter (numberOf r) buffer text
-refused-buffer why.Count buffer text = refl
-refused-buffer why.Symbol buffer text = refl
-refused-buffer why.Start buffer text = refl
-refused-buffer why.Form buffer text = refl
-refused-buffer why.Argument buffer text = refl
-refused-buffer why.Production buffer text = refl
-refused-buffer why.Shape buffer text = refl
-refused-buffer why.Size buffer text = refl
-refused-buffer why.Point buffer text = refl
-refused-buffer why.Busy buffer text = refl
-refused-buffer why.Fields buffer text = refl
-refused-buffer why.Undeclared buffer text = refl
-refused-buffer why.Line buffer text = refl
-refused-buffer why.Frame buffer text = refl
-refused-buffer why.Buffer buffer text = refl
-refused-buffer why.Absent buffer text = refl
-refused-buffer why.Idle buffer text = refl
+refused-buffer r buffer text = buffer-by (numberOf r) buffer text (number-low r)
 
 -- how long each frame's text is
 pub header-length : (t : List ℕ) → length (textAt t AtHeader) ≡ 7

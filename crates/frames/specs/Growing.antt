@@ -1,4 +1,4 @@
--- A tree read from text into lent memory: "13 and 14 [..] all lines of a command are judged so before its other numbers". Assumes nothing.
+-- A tree read from text into lent memory: "all lines of a command are judged so before its other numbers". Assumes nothing.
 use Prim.Native.Nat.{ℕ, zero, suc}
 use mathlib.Core.Path.{_≡_}
 use mathlib.Core.Bool.{Bool, cond, _||_}
@@ -22,7 +22,7 @@ abbrev pub unless : ℕ → ℕ → Nodes → Nodes
 unless zero start nodes = nodes
 unless (suc n) start nodes = bad (refusalOf (suc n)) start
 
--- "15: a lent buffer [..] too short": one that has no room for n nodes
+-- 15, as for text: a lent buffer is "too short for what is to be written", here n nodes
 abbrev pub roomRefusal : ℕ → ℕ → ℕ → ℕ
 roomRefusal n room roomOwns = cond (ltb room n || ltb roomOwns n) 15 0
 

@@ -6,6 +6,7 @@ pub mod Written
 pub mod Read
 pub mod Moved
 pub mod Reading
+pub mod Unique
 pub mod Laws
 pub mod Planting
 pub mod Growing

@@ -37,8 +37,25 @@ pub fn is_hex(b: u8) -> bool
     b < 103
 }
 
-// How many digits stand in a row, 29 at the most: one more than a line may have.
-pub fn digits(text: &[u8], place: usize) -> usize
+// How many digits stand in a row, where the text has 29 bytes more.
+fn digits_in(text: &[u8], place: usize) -> usize
+    requires { ⌜ place + 29 ≤ length (now text) ⌝ }
+    ensures { λ r. ⌜ r ≡ digitsAt 29 (now (text .entry)) place ⌝ }
+{
+    let mut i: usize = 0;
+    while i < 29 {
+        let b = text[place + i];
+        if is_hex(b) {
+            i += 1;
+        } else {
+            return i;
+        }
+    }
+    i
+}
+
+// The same near the text's end, past which it reads 0.
+fn digits_past(text: &[u8], place: usize) -> usize
     requires { ⌜ place + 29 < 2 ^ 64 ⌝ }
     ensures { λ r. ⌜ r ≡ digitsAt 29 (now (text .entry)) place ⌝ }
 {
@@ -52,6 +69,17 @@ pub fn digits(text: &[u8], place: usize) -> usize
         }
     }
     i
+}
+
+// How many digits stand in a row, 29 at the most: one more than a line may have.
+pub fn digits(text: &[u8], place: usize) -> usize
+    requires { ⌜ place + 29 < 2 ^ 64 ⌝ }
+    ensures { λ r. ⌜ r ≡ digitsAt 29 (now (text .entry)) place ⌝ }
+{
+    if place + 29 <= text.len() {
+        return digits_in(text, place);
+    }
+    digits_past(text, place)
 }
 
 // The line that starts at a place.
@@ -97,8 +125,22 @@ pub fn digit_value(b: u8) -> u64
     0
 }
 
-// The number that so many digits stand for, big-endian.
-pub fn number(text: &[u8], place: usize, width: usize) -> u64
+// The number that so many digits of the text stand for, big-endian.
+fn number_in(text: &[u8], place: usize, width: usize) -> u64
+    requires { ⌜ (place + width ≤ length (now text)) × (width ≤ 16) ⌝ }
+    ensures { λ r. ⌜ r ≡ numAt width (now (text .entry)) place ⌝ }
+{
+    let mut v: u64 = 0;
+    let mut i: usize = 0;
+    while i < width {
+        v = v * 16 + digit_value(text[place + i]);
+        i += 1;
+    }
+    v
+}
+
+// The same near the text's end, past which it reads 0.
+fn number_past(text: &[u8], place: usize, width: usize) -> u64
     requires { ⌜ (place + width < 2 ^ 64) × (width ≤ 16) ⌝ }
     ensures { λ r. ⌜ r ≡ numAt width (now (text .entry)) place ⌝ }
 {
@@ -110,6 +152,17 @@ pub fn number(text: &[u8], place: usize, width: usize) -> u64
         i += 1;
     }
     v
+}
+
+// The number that so many digits stand for, big-endian.
+pub fn number(text: &[u8], place: usize, width: usize) -> u64
+    requires { ⌜ (place + width < 2 ^ 64) × (width ≤ 16) ⌝ }
+    ensures { λ r. ⌜ r ≡ numAt width (now (text .entry)) place ⌝ }
+{
+    if place + width <= text.len() {
+        return number_in(text, place, width);
+    }
+    number_past(text, place, width)
 }
 
 // The digit of a number below 16.

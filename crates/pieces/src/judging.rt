@@ -1,8 +1,8 @@
 // Whether the memory lent can be a session's: a public call takes any.
 use crate::State;
-use engine::judge_ground;
-use engine::judge_holding;
-use engine::judge_step;
+use judging::judge_ground;
+use judging::judge_holding;
+use judging::judge_step;
 use frames::Expected;
 use frames::next_of;
 use refusal::Refusal;

@@ -11,7 +11,7 @@ use Rattle.refusal.specs.declared.Verdict.the-variants.{Sound, Refused}
 use Rattle.refusal.specs.Numbers.{numberOf, verdictOf}
 
 -- the refusal of a number
-abbrev named : ℕ → Refusal
+abbrev pub named : ℕ → Refusal
 named n = getD (Count ∷ Count ∷ Symbol ∷ Start ∷ Form ∷ Argument ∷ Production ∷ Shape ∷ Size ∷ Point ∷ Busy ∷ Fields ∷ Undeclared ∷ Line ∷ Frame ∷ Buffer ∷ Absent ∷ Idle ∷ []) n Count
 
 -- the number leads back, and is one of 1 to 17
@@ -38,6 +38,9 @@ led Frame = record { back = refl; low = omega arith; high = omega arith }
 led Buffer = record { back = refl; low = omega arith; high = omega arith }
 led Absent = record { back = refl; low = omega arith; high = omega arith }
 led Idle = record { back = refl; low = omega arith; high = omega arith }
+
+pub number-back : (r : Refusal) → named (numberOf r) ≡ r
+number-back r = led r .back
 
 -- no two refusals share a number
 pub number-one : (r s : Refusal) → numberOf r ≡ numberOf s → r ≡ s

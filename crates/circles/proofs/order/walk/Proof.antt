@@ -62,8 +62,6 @@ walk-spec =
     (λ c. omega arith)
     (λ c. omega arith)
     (λ c. omega arith)
-    (λ c. omega arith)
-    (λ c. omega arith)
     loop-again
     returns-4
     (λ c. omega arith)

@@ -18,9 +18,9 @@ use Rattle.update.specs.Memories.{Memory}
 use Rattle.update.specs.Refusals.{firstRefusal, replaceRefusal}
 use Rattle.engine.specs.Lent.{lent}
 use Rattle.engine.specs.Order.{partNumbers}
-use Rattle.engine.proofs.Orders.{Parts, parts, point-past, point-none, tree-sound, tree-equal}
+use Rattle.judging.proofs.Orders.{Parts, parts, point-past, point-none, tree-sound, tree-equal}
 use Rattle.engine.proofs.Answers.{replace-refused, replace-carried}
-use Rattle.engine.proofs.Parts.{part-fits, some-nodes}
+use Rattle.judging.proofs.Parts.{part-fits, some-nodes}
 use borrow.Author.Needs.{needs}
 use Rattle.engine.proofs.opening.exchange_part.Statement.{statement}
 use Rattle.engine.proofs.opening.exchange_part.Tie as tie

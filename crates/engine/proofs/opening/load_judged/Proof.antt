@@ -7,7 +7,7 @@ use Rattle.update.specs.Refusals.{firstRefusal}
 use Rattle.memory.proofs.Fields.{is-loaded}
 use Rattle.engine.specs.Lent.{lent}
 use Rattle.engine.specs.Order.{loadNumbers}
-use Rattle.engine.proofs.Orders.{load-past, loads}
+use Rattle.judging.proofs.Orders.{load-past, loads}
 use Rattle.engine.proofs.Answers.{load-refused, load-carried}
 use borrow.Author.Needs.{needs}
 use Rattle.engine.proofs.opening.load_judged.Statement.{statement}

@@ -2,7 +2,7 @@
 use Rattle.refusal.proofs.Distinct.{sound-zero, refused-number}
 use Rattle.update.specs.Memories.{Memory}
 use Rattle.engine.specs.Lent.{lent}
-use Rattle.engine.proofs.Orders.{looked, replace-stopped}
+use Rattle.judging.proofs.Orders.{looked, replace-stopped}
 use Rattle.engine.proofs.Answers.{replace-refused}
 use borrow.Author.Needs.{needs}
 use Rattle.engine.proofs.opening.replace.Statement.{statement}

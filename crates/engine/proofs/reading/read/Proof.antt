@@ -12,9 +12,9 @@ use Rattle.memory.proofs.Numbered.{judged-numbered}
 use Rattle.wire.specs.Instances.{declared}
 use Rattle.update.specs.Memories.{Memory}
 use Rattle.engine.specs.Lent.{lent}
-use Rattle.engine.proofs.Orders.{Looked, looked, read-past, read-stopped, tree-sound}
+use Rattle.judging.proofs.Orders.{Looked, looked, read-past, read-stopped, tree-sound}
 use Rattle.engine.proofs.Answers.{read-refused, read-said}
-use Rattle.engine.proofs.Parts.{declared-below}
+use Rattle.judging.proofs.Parts.{declared-below}
 use borrow.Author.Needs.{needs}
 use Rattle.engine.proofs.reading.read.Statement.{statement}
 use Rattle.engine.proofs.reading.read.Tie as tie

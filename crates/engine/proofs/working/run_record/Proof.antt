@@ -2,7 +2,7 @@
 use Rattle.refusal.proofs.Distinct.{sound-zero, refused-number}
 use Rattle.update.specs.Memories.{Memory}
 use Rattle.engine.specs.Lent.{lent}
-use Rattle.engine.proofs.Orders.{going}
+use Rattle.judging.proofs.Orders.{going}
 use Rattle.engine.proofs.Stepping.{run-refused}
 use borrow.Author.Needs.{needs}
 use Rattle.engine.proofs.working.run_record.Statement.{statement}

@@ -8,7 +8,7 @@ use lib.Seq.{length-take-le}
 use Rattle.wire.specs.Turns.{Held}
 use Rattle.update.specs.Memories.{Memory}
 use Rattle.engine.specs.Lent.{lent}
-use Rattle.engine.proofs.Orders.{tree-sound}
+use Rattle.judging.proofs.Orders.{tree-sound}
 use Rattle.engine.proofs.Preparing.{prepared-holds, prepared-long}
 use Rattle.engine.proofs.Stepping.{step-carried}
 use borrow.Author.Needs.{needs}

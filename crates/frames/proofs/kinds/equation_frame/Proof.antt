@@ -24,4 +24,4 @@ equation-frame-spec =
     (λ c κs. search needs)
     (λ c. search needs)
     (λ c κs. search needs)
-    (λ c. simp (eq-eqb _ _ (c .before .before .before .before .before .before .if1 .left)) (cc)))
+    (λ c. simp (eq-eqb _ _ (c .before .before .before .before .before .before .if1 .left)) (rw (← c .before .before .before .before .before .byte .ensures, ← c .before .before .before .before .byte2 .ensures, ← c .before .before .before .byte3 .ensures, ← c .before .before .byte4 .ensures, ← c .before .byte5 .ensures, ← c .number .ensures))))

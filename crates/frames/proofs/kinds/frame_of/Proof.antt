@@ -1,5 +1,5 @@
 -- The arm that is taken tells the type. Assumes nothing.
-use mathlib.Core.Path.{_≡_}
+use mathlib.Core.Path.{_≡_, sym, _∙_}
 use borrow.Author.Tests.{lt-ltb, le-ltb, eq-eqb, ne-eqb}
 use Rattle.lines.specs.Hex.{numAt}
 use Rattle.frames.specs.Frames.{frameOf, kindOf}
@@ -29,12 +29,12 @@ frame-of-spec =
     (λ c κs. search needs)
     (λ c κs. search needs)
     (λ c κs. search needs)
-    (λ c. let a = c .before .before .before .before .args in let e : numAt 2 (a .text .now) (a .place) ≡ 1 = cc in rw e (c .header-frame .ensures))
-    (λ c. let a = c .before .before .before .before .args in let e : numAt 2 (a .text .now) (a .place) ≡ 2 = cc in rw e (c .symbol-frame .ensures))
-    (λ c. let a = c .before .before .before .before .args in let e : numAt 2 (a .text .now) (a .place) ≡ 3 = cc in rw e (c .production-frame .ensures))
-    (λ c. let a = c .before .before .before .before .args in let e : numAt 2 (a .text .now) (a .place) ≡ 4 = cc in rw e (c .equation-frame .ensures))
-    (λ c. let a = c .before .before .before .before .args in let e : numAt 2 (a .text .now) (a .place) ≡ 5 = cc in rw e (c .node-frame .ensures))
-    (λ c. let a = c .before .before .before .before .args in let e : numAt 2 (a .text .now) (a .place) ≡ 6 = cc in rw e (c .load-frame .ensures))
-    (λ c. let a = c .before .before .before .before .args in let e : numAt 2 (a .text .now) (a .place) ≡ 7 = cc in rw e (c .replace-frame .ensures))
-    (λ c. let a = c .before .before .before .before .args in let e : numAt 2 (a .text .now) (a .place) ≡ 8 = cc in rw e (c .dump-frame .ensures))
+    (λ c. let a = c .before .before .before .before .args in let e : numAt 2 (a .text .now) (a .place) ≡ 1 = sym (c .before .before .byte .ensures) ∙ c .before .match .keys1 in rw e (c .header-frame .ensures))
+    (λ c. let a = c .before .before .before .before .args in let e : numAt 2 (a .text .now) (a .place) ≡ 2 = sym (c .before .before .byte .ensures) ∙ c .before .match .keys2 in rw e (c .symbol-frame .ensures))
+    (λ c. let a = c .before .before .before .before .args in let e : numAt 2 (a .text .now) (a .place) ≡ 3 = sym (c .before .before .byte .ensures) ∙ c .before .match .keys3 in rw e (c .production-frame .ensures))
+    (λ c. let a = c .before .before .before .before .args in let e : numAt 2 (a .text .now) (a .place) ≡ 4 = sym (c .before .before .byte .ensures) ∙ c .before .match .keys4 in rw e (c .equation-frame .ensures))
+    (λ c. let a = c .before .before .before .before .args in let e : numAt 2 (a .text .now) (a .place) ≡ 5 = sym (c .before .before .byte .ensures) ∙ c .before .match .keys5 in rw e (c .node-frame .ensures))
+    (λ c. let a = c .before .before .before .before .args in let e : numAt 2 (a .text .now) (a .place) ≡ 6 = sym (c .before .before .byte .ensures) ∙ c .before .match .keys6 in rw e (c .load-frame .ensures))
+    (λ c. let a = c .before .before .before .before .args in let e : numAt 2 (a .text .now) (a .place) ≡ 7 = sym (c .before .before .byte .ensures) ∙ c .before .match .keys7 in rw e (c .replace-frame .ensures))
+    (λ c. let a = c .before .before .before .before .args in let e : numAt 2 (a .text .now) (a .place) ≡ 8 = sym (c .before .before .byte .ensures) ∙ c .before .match .keys8 in rw e (c .dump-frame .ensures))
     returns-9)

@@ -14,4 +14,4 @@ load-frame-spec =
     (λ c. simp (ne-eqb _ _ (c .before .if1 .taken)) (c .wrong .ensures))
     (λ c. search needs)
     (λ c κs. search needs)
-    (λ c. simp (eq-eqb _ _ (c .before .if1 .left)) (cc)))
+    (λ c. simp (eq-eqb _ _ (c .before .if1 .left)) (rw (← c .pair .ensures))))

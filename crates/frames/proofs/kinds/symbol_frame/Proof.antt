@@ -16,4 +16,4 @@ symbol-frame-spec =
     (λ c κs. search needs)
     (λ c. search needs)
     (λ c κs. search needs)
-    (λ c. simp (eq-eqb _ _ (c .before .before .if1 .left)) (cc)))
+    (λ c. simp (eq-eqb _ _ (c .before .before .if1 .left)) (rw (← c .before .byte .ensures, ← c .byte2 .ensures))))

@@ -17,7 +17,7 @@ returns c =
     let w = z .before .before in
     let d = w .before .before .before .before in
     let a = d .args in
-    let v : w .before .wide .result * 4294967296 + w .wide2 .result ≡ numberOf (a .refusal) * 4294967296 + a .line = cc in (
+    let v : w .before .wide .result * 4294967296 + w .wide2 .result ≡ numberOf (a .refusal) * 4294967296 + a .line = λ i. (w .before .wide .ensures ∙ w .before .before .number .ensures) i * 4294967296 + w .wide2 .ensures i in (
       omega (arith, z .put-line .ensures .0),
       z .put-line .ensures .1 ∙ ap (λ (x : ℕ). sets (a .buffer .now) (a .place) (lineText (field 2 0x1f ∷ field 10 x ∷ []))) v ∙ ap (sets (a .buffer .now) (a .place)) (refusal-line (numberOf (a .refusal)) (a .line) (omega arith)),
     )

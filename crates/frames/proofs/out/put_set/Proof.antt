@@ -16,7 +16,7 @@ returns c =
     let w = z .before .before in
     let d = w .before .before in
     let a = d .args in
-    let v : 1245184 + w .wide .result ≡ 1245184 + a .instance = cc in (
+    let v : 1245184 + w .wide .result ≡ 1245184 + a .instance = λ i. 1245184 + w .wide .ensures i in (
       omega (arith, z .put-line .ensures .0),
       z .put-line .ensures .1 ∙ ap (λ (x : ℕ). sets (a .buffer .now) (a .place) (lineText (field 6 x ∷ field 16 (a .value) ∷ []))) v ∙ ap (sets (a .buffer .now) (a .place)) (set-line (a .instance) (a .value) (omega arith)),
     )

@@ -23,8 +23,8 @@ unfolding reachedOf
 reached-spec =
     tie.close
     (tie.spec
-    (λ c. let e : c .before .args .count ≡ 0 = cc in rw e)
-    (λ c. let e : c .before .args .count ≡ 1 = cc in rw e)
-    (λ c. let e : c .before .args .count ≡ 2 = cc in rw e)
-    (λ c. let e : c .before .args .count ≡ 3 = cc in rw e)
+    (λ c. let e : c .before .args .count ≡ 0 = c .match .keys1 in rw e)
+    (λ c. let e : c .before .args .count ≡ 1 = c .match .keys2 in rw e)
+    (λ c. let e : c .before .args .count ≡ 2 = c .match .keys3 in rw e)
+    (λ c. let e : c .before .args .count ≡ 3 = c .match .keys4 in rw e)
     returns-5)

@@ -7,7 +7,7 @@ use Rattle.steps.proofs.numbers.next_record.Tie as tie
 
 returns : tie.Need-returns
 unfolding roundRecord
-returns c = rw (c .before .before .if1 .taken, c .before .before .before .capped .ensures, c .capped2 .ensures) (simp add-one)
+returns c = rw (c .before .before .if1 .taken, ← c .before .before .before .capped .ensures, c .capped2 .ensures) (simp add-one)
 
 returns-2 : tie.Need-returns-2
 unfolding roundRecord

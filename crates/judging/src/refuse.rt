@@ -1,0 +1,244 @@
+// The refusals of the calls, in document 01's order.
+use crate::trees::wide;
+use refusal::Refusal;
+use refusal::Verdict;
+use table::judge_table;
+use table::left_of;
+use tree::judge_held;
+use tree::judge_nodes;
+use update::Open;
+use update::Record;
+ghost use mathlib.Core.Path.{_≡_};
+ghost use Prim.Native.Nat.{_<_, _≤_};
+ghost use lib.ListN.{length, take};
+ghost use Rattle.refusal.specs.Numbers.{verdictOf};
+ghost use Rattle.table.specs.Judge.{judgeTable};
+ghost use Rattle.memory.specs.Numbered.{Numbered};
+ghost use Rattle.update.specs.Records.{isOpen, beyond};
+ghost use Rattle.update.specs.Refusals.{firstRefusal, short, stepRefusal};
+ghost use Rattle.judging.specs.Lent.{lent};
+ghost use Rattle.judging.specs.Order.{groundNumbers, loadNumbers, heldNumbers, goingNumbers, lookNumbers, pointNumbers, partNumbers};
+
+// 15: whether a lent buffer is shorter than 512 nodes or 4,096 sets.
+fn is_short(held: &[u8], held_owns: &[u64], sets: &[u64], before: &[u64]) -> bool
+    ensures { λ r. ⌜ r ≡ short (lent (now (held .entry)) (now («held_owns» .entry)) (now (sets .entry)) (now (before .entry))) ⌝ }
+{
+    if held.len() < 512 {
+        return true;
+    }
+    if held_owns.len() < 512 {
+        return true;
+    }
+    if sets.len() < 4096 {
+        return true;
+    }
+    if before.len() < 4096 {
+        return true;
+    }
+    false
+}
+
+fn is_open(open: Open) -> bool
+    ensures { λ r. ⌜ r ≡ isOpen «open» ⌝ }
+{
+    match open {
+        Open::Nothing => false,
+        Open::Load => true,
+        Open::Replacement => true,
+    }
+}
+
+// 11: whether a field is beyond its limit, or an open record's point or new part lies outside the tree.
+fn is_beyond(record: Record) -> bool
+    ensures { λ r. ⌜ r ≡ beyond «record» ⌝ }
+{
+    let nodes = record.nodes;
+    let point = record.point;
+    let part = record.part;
+    if Record::NODES < nodes {
+        return true;
+    }
+    if Record::NODES < point {
+        return true;
+    }
+    if Record::NODES < part {
+        return true;
+    }
+    if Record::CIRCLES < record.rank as u64 {
+        return true;
+    }
+    if Record::ROUND < record.round {
+        return true;
+    }
+    if Record::CIRCLES < record.circles {
+        return true;
+    }
+    if Record::EVALUATIONS < record.evaluations {
+        return true;
+    }
+    let open = record.open;
+    if is_open(open) {
+        if nodes <= point {
+            return true;
+        }
+        if nodes < point + part {
+            return true;
+        }
+        return false;
+    }
+    false
+}
+
+// What every call is refused by first: 15, 1 to 5, 11.
+pub fn judge_ground(
+    table: &[u64; 2657],
+    record: Record,
+    held: &[u8],
+    held_owns: &[u64],
+    sets: &[u64],
+    before: &[u64],
+) -> Verdict
+    ensures { λ r. ⌜ verdictOf r ≡ firstRefusal (groundNumbers (now (table .entry)) (lent (now (held .entry)) (now («held_owns» .entry)) (now (sets .entry)) (now (before .entry))) «record») ⌝ }
+{
+    if is_short(held, held_owns, sets, before) {
+        return Verdict::Refused(Refusal::Buffer);
+    }
+    match judge_table(table) {
+        Verdict::Sound => {
+            if is_beyond(record) {
+                return Verdict::Refused(Refusal::Fields);
+            }
+            Verdict::Sound
+        }
+        Verdict::Refused(r) => Verdict::Refused(r),
+    }
+}
+
+// What a load is refused by behind that: 10, 8, 6/7.
+pub fn judge_load(table: &[u64; 2657], record: Record, productions: &[u8], owns: &[u64]) -> Verdict
+    requires { ⌜ judgeTable (now table) ≡ 0 ⌝ }
+    ensures { λ r. ⌜ verdictOf r ≡ firstRefusal (loadNumbers (now (table .entry)) «record» (now (productions .entry)) (now (owns .entry))) ⌝ }
+{
+    let open = record.open;
+    if is_open(open) {
+        return Verdict::Refused(Refusal::Busy);
+    }
+    if Record::NODES < productions.len() {
+        return Verdict::Refused(Refusal::Size);
+    }
+    if productions.len() != owns.len() {
+        return Verdict::Refused(Refusal::Shape);
+    }
+    judge_nodes(table, productions, 0)
+}
+
+// 16, and the held tree's 6/7.
+pub fn judge_holding(table: &[u64; 2657], record: Record, held: &[u8], held_owns: &[u64]) -> Verdict
+    requires { ⌜ judgeTable (now table) ≡ 0 ⌝ }
+    requires { ⌜ («record» .nodes ≤ length (now held)) × («record» .nodes ≤ length (now «held_owns»)) ⌝ }
+    ensures { λ r. ⌜ verdictOf r ≡ firstRefusal (heldNumbers (now (table .entry)) (now (held .entry)) (now («held_owns» .entry)) «record») ⌝ }
+{
+    if record.held {
+        return judge_held(table, held, record.nodes, 0);
+    }
+    Verdict::Refused(Refusal::Absent)
+}
+
+// What a look at the held tree is refused by: 15, 1 to 5, 11, 10, 16, 6/7.
+pub fn judge_look(
+    table: &[u64; 2657],
+    record: Record,
+    held: &[u8],
+    held_owns: &[u64],
+    sets: &[u64],
+    before: &[u64],
+) -> Verdict
+    ensures { λ r. ⌜ verdictOf r ≡ firstRefusal (lookNumbers (now (table .entry)) (lent (now (held .entry)) (now («held_owns» .entry)) (now (sets .entry)) (now (before .entry))) «record») ⌝ }
+{
+    match judge_ground(table, record, held, held_owns, sets, before) {
+        Verdict::Sound => {
+            let open = record.open;
+            if is_open(open) {
+                return Verdict::Refused(Refusal::Busy);
+            }
+            judge_holding(table, record, held, held_owns)
+        }
+        Verdict::Refused(r) => Verdict::Refused(r),
+    }
+}
+
+// What a replacement is refused by where a held tree is sound: 10, 16, 9.
+pub fn judge_point(record: Record, point: usize) -> Verdict
+    ensures { λ r. ⌜ verdictOf r ≡ firstRefusal (pointNumbers «record» point) ⌝ }
+{
+    let open = record.open;
+    if is_open(open) {
+        return Verdict::Refused(Refusal::Busy);
+    }
+    if record.held {
+        if record.nodes <= point {
+            return Verdict::Refused(Refusal::Point);
+        }
+        return Verdict::Sound;
+    }
+    Verdict::Refused(Refusal::Absent)
+}
+
+// And then by the new part, where `old` of the `nodes` nodes make way: 8, 6/7.
+pub fn judge_part(
+    table: &[u64; 2657],
+    held: &[u8],
+    nodes: usize,
+    point: usize,
+    old: usize,
+    new: &[u8],
+    new_owns: &[u64],
+) -> Verdict
+    requires { ⌜ judgeTable (now table) ≡ 0 ⌝ }
+    requires { ⌜ Numbered (now table) (take nodes (now held)) ⌝ }
+    requires { ⌜ (point < nodes) × (old ≤ nodes) × (nodes ≤ 512) × (nodes ≤ length (now held)) ⌝ }
+    ensures { λ r. ⌜ verdictOf r ≡ firstRefusal (partNumbers (now (table .entry)) (take nodes (now (held .entry))) nodes point old (now (new .entry)) (now («new_owns» .entry))) ⌝ }
+{
+    if Record::NODES - (nodes - old) < new.len() {
+        return Verdict::Refused(Refusal::Size);
+    }
+    if new.len() != new_owns.len() {
+        return Verdict::Refused(Refusal::Shape);
+    }
+    judge_nodes(table, new, left_of(table, wide(held[point])))
+}
+
+// 16, the held tree's 6/7, 17.
+fn judge_going(table: &[u64; 2657], record: Record, held: &[u8], held_owns: &[u64]) -> Verdict
+    requires { ⌜ judgeTable (now table) ≡ 0 ⌝ }
+    requires { ⌜ («record» .nodes ≤ length (now held)) × («record» .nodes ≤ length (now «held_owns»)) ⌝ }
+    ensures { λ r. ⌜ verdictOf r ≡ firstRefusal (goingNumbers (now (table .entry)) (now (held .entry)) (now («held_owns» .entry)) «record») ⌝ }
+{
+    match judge_holding(table, record, held, held_owns) {
+        Verdict::Sound => {
+            let open = record.open;
+            if is_open(open) {
+                return Verdict::Sound;
+            }
+            Verdict::Refused(Refusal::Idle)
+        }
+        Verdict::Refused(r) => Verdict::Refused(r),
+    }
+}
+
+// What a step and a run are refused by: 15, 1 to 5, 11, 16, 6/7, 17.
+pub fn judge_step(
+    table: &[u64; 2657],
+    record: Record,
+    held: &[u8],
+    held_owns: &[u64],
+    sets: &[u64],
+    before: &[u64],
+) -> Verdict
+    ensures { λ r. ⌜ verdictOf r ≡ stepRefusal (now (table .entry)) (lent (now (held .entry)) (now («held_owns» .entry)) (now (sets .entry)) (now (before .entry))) «record» ⌝ }
+{
+    match judge_ground(table, record, held, held_owns, sets, before) {
+        Verdict::Sound => judge_going(table, record, held, held_owns),
+        Verdict::Refused(r) => Verdict::Refused(r),
+    }
+}
