@@ -1,3 +1,4 @@
+-- The invariant: what was owed at first is what has been printed and what is owed now. What is left to do falls. Assumes nothing.
 use Rattle.pieces.proofs.Faring.{fares-none, fares-on, sized-none, sized-on, fares-out, fed-all, fed-full}
 use Rattle.pieces.proofs.Deciding.{tested-not}
 use Rattle.pieces.specs.Faring.{Fares, Sized, toDo}
@@ -8,10 +9,6 @@ use borrow.Author.Needs.{needs}
 use mathlib.Core.Path.{_∙_}
 use Rattle.pieces.proofs.feeding.feed_sound.Statement.{statement}
 use Rattle.pieces.proofs.feeding.feed_sound.Tie as tie
-use Rattle.pieces.proofs.feeding.feed_sound.Reads as reads
-use Rattle.pieces.proofs.feeding.feed_sound.Lts as lts
-use Rattle.pieces.proofs.feeding.has_room.Reads as has-room-reads
-use Rattle.pieces.proofs.feeding.turn.Reads as turn-reads
 
 abbrev Inv-loop : tie.InvT-loop
 Inv-loop table₀ window₀ parts₀ part-owns₀ held₀ held-owns₀ sets₀ before₀ piece from out₀ now₀ at₀ printed₀ table window parts part-owns held held-owns sets before out now at printed =
@@ -21,98 +18,72 @@ abbrev μ-loop : tie.MeasureT-loop
 μ-loop table₀ window₀ parts₀ part-owns₀ held₀ held-owns₀ sets₀ before₀ piece from out₀ now₀ at₀ printed₀ table window parts part-owns held held-owns sets before out now at printed =
     toDo (desk table window parts part-owns (lent held held-owns sets before) now) piece at out printed
 
--- src/feeding.rt:301:5
 loop-holds : tie.Need-loop-holds Inv-loop μ-loop
 loop-holds c = (fares-none _ _ _ _ _ (c .before .before .before .before .before .before .before .before .before .pre), sized-none _)
 
--- src/feeding.rt:301:11
-has-room-requires : tie.Need-has-room-requires Inv-loop μ-loop
-has-room-requires c κs = search needs
-
--- src/feeding.rt:302:13
 turn-requires : tie.Need-turn-requires Inv-loop μ-loop
 turn-requires c κs = (c .before .before .before .before .before .before .before .before .before .before .before .loop .inv .0 .ready, record { room = c .before .before .before .before .before .before .before .before .before .before .has-room .ensures .yes (c .before .before .before .before .before .before .before .before .before .if1 .taken) })
 
--- src/feeding.rt:321:13
 same-length : tie.Need-same-length Inv-loop μ-loop
 same-length c = c .before .before .before .before .before .before .before .before .before .before .before .before .before .before .before .before .before .before .window .given ∙ c .before .before .before .before .before .before .before .before .before .before .before .before .before .before .before .before .before .before .before .before .before .before .before .before .before .before .before .before .before .before .before .loop .inv .1 .window
 
--- src/feeding.rt:321:13
 same-length-2 : tie.Need-same-length-2 Inv-loop μ-loop
 same-length-2 c = c .before .before .before .before .before .before .before .before .before .before .before .before .before .before .before .before .parts .given ∙ c .before .before .before .before .before .before .before .before .before .before .before .before .before .before .before .before .before .before .before .before .before .before .before .before .before .before .before .before .before .before .before .loop .inv .1 .parts
 
--- src/feeding.rt:321:13
 same-length-3 : tie.Need-same-length-3 Inv-loop μ-loop
 same-length-3 c = c .before .before .before .before .before .before .before .before .before .before .before .before .before .before .part-owns .given ∙ c .before .before .before .before .before .before .before .before .before .before .before .before .before .before .before .before .before .before .before .before .before .before .before .before .before .before .before .before .before .before .before .loop .inv .1 .part-owns
 
--- src/feeding.rt:321:13
 same-length-4 : tie.Need-same-length-4 Inv-loop μ-loop
 same-length-4 c = c .before .before .before .before .before .before .before .before .before .before .before .before .held .given ∙ c .before .before .before .before .before .before .before .before .before .before .before .before .before .before .before .before .before .before .before .before .before .before .before .before .before .before .before .before .before .before .before .loop .inv .1 .productions
 
--- src/feeding.rt:321:13
 same-length-5 : tie.Need-same-length-5 Inv-loop μ-loop
 same-length-5 c = c .before .before .before .before .before .before .before .before .before .before .held-owns .given ∙ c .before .before .before .before .before .before .before .before .before .before .before .before .before .before .before .before .before .before .before .before .before .before .before .before .before .before .before .before .before .before .before .loop .inv .1 .owns
 
--- src/feeding.rt:321:13
 same-length-6 : tie.Need-same-length-6 Inv-loop μ-loop
 same-length-6 c = c .before .before .before .before .before .before .before .before .sets .given ∙ c .before .before .before .before .before .before .before .before .before .before .before .before .before .before .before .before .before .before .before .before .before .before .before .before .before .before .before .before .before .before .before .loop .inv .1 .sets-size
 
--- src/feeding.rt:321:13
 same-length-7 : tie.Need-same-length-7 Inv-loop μ-loop
 same-length-7 c = c .before .before .before .before .before .before .before2 .given ∙ c .before .before .before .before .before .before .before .before .before .before .before .before .before .before .before .before .before .before .before .before .before .before .before .before .before .before .before .before .before .before .before .loop .inv .1 .before
 
--- src/feeding.rt:321:13
 same-length-8 : tie.Need-same-length-8 Inv-loop μ-loop
 same-length-8 c = c .before .before .before .before .out .given ∙ fares-out (c .before .before .before .before .before .before .before .before .before .before .before .before .before .before .before .before .before .before .before .before .before .before .before .before .before .before .before .before .before .before .before .loop .inv .0)
 
--- src/feeding.rt:321:13
 returns : tie.Need-returns Inv-loop μ-loop
 returns c =
     let t = c .before .before .before .before .before .before .before .before .before .before .before .before .before .before .before .before .before .before .before .turn .ensures in
     let e = not-true (c .before .before .before .before .before .before .before .before .before .before .before .before .before .before .before .before .before .before .before .turn .result .more) (c .if2 .taken) in
     (fed-all (fares-on (c .before .before .before .before .before .before .before .before .before .before .before .before .before .before .before .before .before .before .before .before .before .before .before .before .before .before .before .before .before .before .before .loop .inv .0) (t .fares)) (t .idle e) (t .used e), t .fares .ready .size)
 
--- src/feeding.rt:301:5
 loop-less : tie.Need-loop-less Inv-loop μ-loop
 loop-less c = c .before .before .before .before .before .before .before .before .before .before .before .before .before .before .before .before .before .before .before .turn .ensures .onward (not-false (c .before .before .before .before .before .before .before .before .before .before .before .before .before .before .before .before .before .before .before .turn .result .more) (c .if2 .left))
 
--- src/feeding.rt:301:5
 loop-again : tie.Need-loop-again Inv-loop μ-loop
 loop-again c = (fares-on (c .before .before .before .before .before .before .before .before .before .before .before .before .before .before .before .before .before .before .before .before .before .before .before .before .before .before .before .before .before .before .before .loop .inv .0) (c .before .before .before .before .before .before .before .before .before .before .before .before .before .before .before .before .before .before .before .turn .ensures .fares), sized-on (c .before .before .before .before .before .before .before .before .before .before .before .before .before .before .before .before .before .before .before .before .before .before .before .before .before .before .before .before .before .before .before .loop .inv .1) (record { window = c .before .before .before .before .before .before .before .before .before .before .before .before .before .before .before .before .before .before .window .given; parts = c .before .before .before .before .before .before .before .before .before .before .before .before .before .before .before .before .parts .given; part-owns = c .before .before .before .before .before .before .before .before .before .before .before .before .before .before .part-owns .given; productions = c .before .before .before .before .before .before .before .before .before .before .before .before .held .given; owns = c .before .before .before .before .before .before .before .before .before .before .held-owns .given; sets-size = c .before .before .before .before .before .before .before .before .sets .given; before = c .before .before .before .before .before .before .before2 .given }))
 
--- src/feeding.rt:281:1
 same-length-9 : tie.Need-same-length-9 Inv-loop μ-loop
 same-length-9 c = c .before .before .loop .inv .1 .window
 
--- src/feeding.rt:281:1
 same-length-10 : tie.Need-same-length-10 Inv-loop μ-loop
 same-length-10 c = c .before .before .loop .inv .1 .parts
 
--- src/feeding.rt:281:1
 same-length-11 : tie.Need-same-length-11 Inv-loop μ-loop
 same-length-11 c = c .before .before .loop .inv .1 .part-owns
 
--- src/feeding.rt:281:1
 same-length-12 : tie.Need-same-length-12 Inv-loop μ-loop
 same-length-12 c = c .before .before .loop .inv .1 .productions
 
--- src/feeding.rt:281:1
 same-length-13 : tie.Need-same-length-13 Inv-loop μ-loop
 same-length-13 c = c .before .before .loop .inv .1 .owns
 
--- src/feeding.rt:281:1
 same-length-14 : tie.Need-same-length-14 Inv-loop μ-loop
 same-length-14 c = c .before .before .loop .inv .1 .sets-size
 
--- src/feeding.rt:281:1
 same-length-15 : tie.Need-same-length-15 Inv-loop μ-loop
 same-length-15 c = c .before .before .loop .inv .1 .before
 
--- src/feeding.rt:281:1
 same-length-16 : tie.Need-same-length-16 Inv-loop μ-loop
 same-length-16 c = fares-out (c .before .before .loop .inv .0)
 
--- src/feeding.rt:281:1
 returns-2 : tie.Need-returns-2 Inv-loop μ-loop
 returns-2 c = (fed-full (c .before .before .loop .inv .0) (tested-not (c .before .has-room .ensures) (c .if1 .left)), c .before .before .loop .inv .0 .ready .size)
 
@@ -123,7 +94,7 @@ feed-sound-spec =
     Inv-loop
     μ-loop
     loop-holds
-    has-room-requires
+    (λ c κs. search needs)
     turn-requires
     same-length
     same-length-2
