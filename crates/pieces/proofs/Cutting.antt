@@ -7,9 +7,10 @@ use native.Mathlib.Omega.{arith}
 use lib.ListN.{length, take, drop, length-take, replicate, drop-of-length-le}
 use Rattle.session.specs.Session.{session, ownMemory}
 use Rattle.session.specs.Owed.{owed}
-use Rattle.session.specs.Laws.{listens, endText, EndPays, AllOwed}
+use Rattle.session.specs.Laws.{listens, endText}
 use Rattle.session.specs.declared.Mode.{Mode}
 use Rattle.session.specs.declared.Mode.the-variants.{Table, Command, Nodes, Working, Stopped}
+use Rattle.session.proofs.Ending.{end-pays, all-owed}
 use Rattle.pieces.specs.Feeding.{Desk, Fits, Feeds, tableOf, lineOf, owedFor, lastText}
 use Rattle.pieces.specs.Laws.{Starts, Piece, last, more, Pieces, ends, next, joined, HoweverCut}
 
@@ -43,22 +44,21 @@ piece-pays : {d d′ : Desk} {piece text : List ℕ} {from : ℕ} → Piece d pi
 piece-pays {d′ = d′} {piece = piece} (last {place = place} f) u = f .paid u ∙ ap (λ (l : List ℕ). f .text ++ l) (used-up d′ piece place (f .used refl) (d′ .state .mode) refl u)
 piece-pays {d′ = d″} (more {d′ = d′} {text = text} f p) u = f .paid u ∙ ap (λ (l : List ℕ). f .text ++ l) (piece-pays p u) ∙ sym (append-assoc (f .text) text (owedFor d″ u))
 
-module _ (end-pays : EndPays) where
-  -- the end of the input
-  end-owed : (d : Desk) → Rests d → owedFor d [] ≡ lastText (d .state)
-  end-owed d r =
-      let n : length (lineOf d) ≡ d .state .begun = length-take (d .state .begun) (d .window) ∙ omega (arith, r .fits .begun, r .fits .wide .window-room) in
-      rw (append-nil (lineOf d))
-      (end-pays (d .state .mode) (tableOf d) (d .parts) (d .partOwns) (d .memory) (d .state .«record») (d .state .line) (lineOf d) (r .idle) (r .fits .sound) (r .fits .line)
-      ∙ ap (λ (k : ℕ). endText (d .state .mode) k (d .state .line)) n)
+-- the end of the input
+end-owed : (d : Desk) → Rests d → owedFor d [] ≡ lastText (d .state)
+end-owed d r =
+    let n : length (lineOf d) ≡ d .state .begun = length-take (d .state .begun) (d .window) ∙ omega (arith, r .fits .begun, r .fits .wide .window-room) in
+    rw (append-nil (lineOf d))
+    (end-pays (d .state .mode) (tableOf d) (d .parts) (d .partOwns) (d .memory) (d .state .«record») (d .state .line) (lineOf d) (r .idle) (r .fits .sound) (r .fits .line)
+    ∙ ap (λ (k : ℕ). endText (d .state .mode) k (d .state .line)) n)
 
-  pieces-pay : {d : Desk} {pieces : List (List ℕ)} {text : List ℕ} → Rests d → Pieces d pieces text → owedFor d (joined pieces) ≡ text
-  unfolding joined
-  pieces-pay {d} r ends = end-owed d r
-  pieces-pay r (next {text = text} {pieces = pieces} p q) = piece-pays p (joined pieces) ∙ ap (λ (l : List ℕ). text ++ l) (pieces-pay (piece-rests p) q)
+pieces-pay : {d : Desk} {pieces : List (List ℕ)} {text : List ℕ} → Rests d → Pieces d pieces text → owedFor d (joined pieces) ≡ text
+unfolding joined
+pieces-pay {d} r ends = end-owed d r
+pieces-pay r (next {text = text} {pieces = pieces} p q) = piece-pays p (joined pieces) ∙ ap (λ (l : List ℕ). text ++ l) (pieces-pay (piece-rests p) q)
 
-pub however-cut-from : EndPays → AllOwed → HoweverCut
-however-cut-from end-pays all-owed d out pieces text s p =
+pub however-cut : HoweverCut
+however-cut d out pieces text s p =
     let idle : listens (d .state .mode) ≡ true = rw (s .mode) in
-    let all : owedFor d (joined pieces) ≡ session (joined pieces) = rw (s .mode, s .line, s .empty, s .words, s .memory) (all-owed (d .parts) (d .partOwns) (d .state .«record») (joined pieces)) in
-    sym (pieces-pay end-pays (record { out = out; fits = s .fits; idle = idle }) p) ∙ all
+    let first : owedFor d (joined pieces) ≡ session (joined pieces) = rw (s .mode, s .line, s .empty, s .words, s .memory) (all-owed (d .parts) (d .partOwns) (d .state .«record») (joined pieces)) in
+    sym (pieces-pay (record { out = out; fits = s .fits; idle = idle }) p) ∙ first

@@ -1,3 +1,4 @@
 pub mod Cutting
 pub mod Deciding
 pub mod Walking
+pub mod Faring

@@ -36,8 +36,8 @@ pub record Desk : Type 0 where
   pub partOwns : List ℕ
   pub memory : Memory
 
-abbrev pub desk : State → List ℕ → List ℕ → List ℕ → List ℕ → Memory → Desk
-desk state words window parts partOwns memory =
+abbrev pub desk : List ℕ → List ℕ → List ℕ → List ℕ → Memory → State → Desk
+desk words window parts partOwns memory state =
     record { state = state; words = words; window = window; parts = parts; partOwns = partOwns; memory = memory }
 
 -- a session that has read nothing

@@ -1,4 +1,5 @@
 pub mod Ending
+pub mod Faring
 pub mod Feeding
 pub mod Gathering
 pub mod Laws

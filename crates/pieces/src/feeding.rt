@@ -1,57 +1,89 @@
 // Pieces of text in, printed bytes out.
 use crate::Fed;
 use crate::State;
+use crate::copying::copy_in;
+use crate::copying::copy_out;
+use crate::ending::is_stopped;
+use crate::gathering::gather;
+use crate::gathering::line_after;
 use crate::judging::is_narrow;
 use crate::judging::judge_state;
-use frames::Written;
 use frames::frame_at;
-use frames::put_refusal;
 use refusal::Refusal;
 use refusal::Verdict;
 use session::Mode;
 use session::Told;
 use session::hear;
 use session::tell_rounds;
+use update::Record;
+ghost use mathlib.Core.Path.{_≡_};
+ghost use mathlib.Core.Bool.{true};
+ghost use Prim.Native.Nat.{_+_, _≤_};
+ghost use lib.ListN.{length, take};
+ghost use Rattle.frames.specs.Frames.{frameAt};
+ghost use Rattle.engine.specs.Lent.{lent};
+ghost use Rattle.engine.specs.Order.{Going};
+ghost use Rattle.session.specs.Owed.{Sound};
+ghost use Rattle.session.specs.Hearing.{hearing, Hears, Spacious};
+ghost use Rattle.session.specs.Telling.{RoundsTold};
+ghost use Rattle.session.specs.Laws.{listens};
+ghost use Rattle.pieces.specs.Feeding.{desk, Tests, Feeds, FeedSays};
+ghost use Rattle.pieces.specs.Faring.{Ready, Turns};
 
-// How many bytes of a line have come, how far the piece was taken, and whether 29 bytes or an LF decide the line.
-struct Gathered {
-    begun: usize,
+// What a turn leads to: how far the piece is taken, where the next byte is printed, and whether there is more to do.
+struct Turned {
+    state: State,
     place: usize,
-    whole: bool,
+    printed: usize,
+    more: bool,
 }
 
-// Bytes of a piece behind those of the begun line.
-fn gather(piece: &[u8], from: usize, window: &mut [u8], begun: usize) -> Gathered {
-    let mut n = begun;
-    let mut at = from;
-    while n < 29 {
-        if piece.len() <= at {
-            return Gathered {
-                begun: n,
-                place: at,
-                whole: false,
-            };
-        }
-        let b = piece[at];
-        window[n] = b;
-        n += 1;
-        at += 1;
-        if b == 10 {
-            return Gathered {
-                begun: n,
-                place: at,
-                whole: true,
-            };
-        }
-    }
-    Gathered {
-        begun: n,
-        place: at,
-        whole: true,
-    }
+// The rounds of the open update, as many as there is room for.
+fn work<'a>(
+    table: &'a [u64; 2657],
+    record: Record,
+    turns: u64,
+    held: &'a [u8],
+    held_owns: &'a [u64],
+    sets: &mut [u64],
+    before: &'a [u64],
+    out: &mut [u8],
+    printed: usize,
+) -> Told
+    requires { ⌜ Going (now table) (lent (now held) (now «held_owns») (now sets) (now before)) «record» ⌝ }
+    requires { ⌜ printed ≤ length (now out) ⌝ }
+    ensures { λ r. ⌜ RoundsTold (now (table .entry)) (lent (now (held .entry)) (now («held_owns» .entry)) (now (sets .entry)) (now (before .entry))) «record» turns printed (now (out .entry)) r (lent (now (held .entry)) (now («held_owns» .entry)) (now (sets .exit)) (now (before .entry))) (now (out .exit)) ⌝ }
+{
+    let mut a = [0u16; 4096];
+    let mut b = [0u16; 4096];
+    let mut left = [0u16; 4096];
+    let mut rule = [0u16; 4096];
+    let mut label = [0u16; 4096];
+    let mut members = [0u16; 4096];
+    let mut ends = [0u16; 4097];
+    let mut values = [0u64; 4096];
+    tell_rounds(
+        table,
+        record,
+        turns,
+        held,
+        held_owns,
+        sets,
+        before,
+        &mut a,
+        &mut b,
+        &mut left,
+        &mut rule,
+        &mut label,
+        &mut members,
+        &mut ends,
+        &mut values,
+        out,
+        printed,
+    )
 }
 
-// A line that is whole.
+// A line that is whole: the first bytes of the window.
 fn hear_line(
     table: &mut [u64; 2657],
     state: State,
@@ -65,12 +97,17 @@ fn hear_line(
     before: &mut [u64],
     out: &mut [u8],
     printed: usize,
-) -> Told {
-    let step = frame_at(&window[..begun], 0, state.line);
-    let frame = step.frame;
+) -> Told
+    requires { ⌜ (length (now table) ≡ 2657) × Sound (state .mode) (now table) (lent (now held) (now «held_owns») (now sets) (now before)) (state .«record») ⌝ }
+    requires { ⌜ (513 ≤ length (now parts)) × (513 ≤ length (now «part_owns»)) × Spacious (now out) printed ⌝ }
+    requires { ⌜ begun ≤ length (now window) ⌝ }
+    ensures { λ r. ⌜ Hears (hearing (state .mode) (frameAt (take begun (now (window .entry))) 0 (state .line) .frame) (state .line) (now (table .entry)) (now (parts .entry)) (now («part_owns» .entry)) (lent (now (held .entry)) (now («held_owns» .entry)) (now (sets .entry)) (now (before .entry))) (state .«record»)) r printed (now (out .entry)) (now (out .exit)) (now (table .exit)) (now (parts .exit)) (now («part_owns» .exit)) (lent (now (held .exit)) (now («held_owns» .exit)) (now (sets .exit)) (now (before .exit))) ⌝ }
+{
     let mode = state.mode;
     let record = state.record;
     let line = state.line;
+    let step = frame_at(&window[..begun], 0, line);
+    let frame = step.frame;
     hear(
         table,
         mode,
@@ -88,19 +125,159 @@ fn hear_line(
     )
 }
 
-// The number of the line behind.
-fn line_after(line: u32) -> u32 {
-    if line < 0xffff_ffff { line + 1 } else { line }
-}
-
-fn is_stopped(mode: Mode) -> bool {
-    if let Mode::Stopped = mode {
-        return true;
+// Bytes of the piece, and the line that they make whole.
+fn listen(
+    table: &mut [u64; 2657],
+    state: State,
+    window: &mut [u8],
+    parts: &mut [u8],
+    part_owns: &mut [u64],
+    held: &mut [u8],
+    held_owns: &mut [u64],
+    sets: &mut [u64],
+    before: &mut [u64],
+    piece: &[u8],
+    from: usize,
+    out: &mut [u8],
+    printed: usize,
+) -> Turned
+    requires { ⌜ Ready (desk (now table) (now window) (now parts) (now «part_owns») (lent (now held) (now «held_owns») (now sets) (now before)) state) (now out) × Spacious (now out) printed × (listens (state .mode) ≡ true) ⌝ }
+    ensures { λ r. ⌜ Turns (desk (now (table .entry)) (now (window .entry)) (now (parts .entry)) (now («part_owns» .entry)) (lent (now (held .entry)) (now («held_owns» .entry)) (now (sets .entry)) (now (before .entry))) state) (now (piece .entry)) from (now (out .entry)) printed (desk (now (table .exit)) (now (window .exit)) (now (parts .exit)) (now («part_owns» .exit)) (lent (now (held .exit)) (now («held_owns» .exit)) (now (sets .exit)) (now (before .exit))) (r .state)) (r .place) (now (out .exit)) (r .printed) (r .more) ⌝ }
+{
+    let g = gather(piece, from, window, state.begun);
+    if !g.whole {
+        let mode = state.mode;
+        let record = state.record;
+        let waiting = State {
+            mode: mode,
+            begun: g.begun,
+            line: state.line,
+            record: record,
+        };
+        return Turned {
+            state: waiting,
+            place: g.place,
+            printed: printed,
+            more: false,
+        };
     }
-    false
+    let told = hear_line(
+        table,
+        state,
+        &*window,
+        g.begun,
+        parts,
+        part_owns,
+        held,
+        held_owns,
+        sets,
+        before,
+        out,
+        printed,
+    );
+    let mode = told.mode;
+    let record = told.record;
+    let next = State {
+        mode: mode,
+        begun: 0,
+        line: line_after(state.line),
+        record: record,
+    };
+    Turned {
+        state: next,
+        place: g.place,
+        printed: told.printed,
+        more: true,
+    }
 }
 
-// Lines and rounds, until the piece is used up, the session is over or what a line can print has no room.
+// Rounds while an update is at work, else a line; nothing behind the session's end.
+fn turn(
+    table: &mut [u64; 2657],
+    state: State,
+    window: &mut [u8],
+    parts: &mut [u8],
+    part_owns: &mut [u64],
+    held: &mut [u8],
+    held_owns: &mut [u64],
+    sets: &mut [u64],
+    before: &mut [u64],
+    piece: &[u8],
+    from: usize,
+    out: &mut [u8],
+    printed: usize,
+) -> Turned
+    requires { ⌜ Ready (desk (now table) (now window) (now parts) (now «part_owns») (lent (now held) (now «held_owns») (now sets) (now before)) state) (now out) × Spacious (now out) printed ⌝ }
+    ensures { λ r. ⌜ Turns (desk (now (table .entry)) (now (window .entry)) (now (parts .entry)) (now («part_owns» .entry)) (lent (now (held .entry)) (now («held_owns» .entry)) (now (sets .entry)) (now (before .entry))) state) (now (piece .entry)) from (now (out .entry)) printed (desk (now (table .exit)) (now (window .exit)) (now (parts .exit)) (now («part_owns» .exit)) (lent (now (held .exit)) (now («held_owns» .exit)) (now (sets .exit)) (now (before .exit))) (r .state)) (r .place) (now (out .exit)) (r .printed) (r .more) ⌝ }
+{
+    let mode = state.mode;
+    if let Mode::Working { turns } = mode {
+        let record = state.record;
+        let told = work(
+            &*table,
+            record,
+            turns,
+            &*held,
+            &*held_owns,
+            sets,
+            &*before,
+            out,
+            printed,
+        );
+        let now = told.mode;
+        let left = told.record;
+        let next = State {
+            mode: now,
+            begun: state.begun,
+            line: state.line,
+            record: left,
+        };
+        return Turned {
+            state: next,
+            place: from,
+            printed: told.printed,
+            more: true,
+        };
+    }
+    if is_stopped(mode) {
+        return Turned {
+            state: state,
+            place: from,
+            printed: printed,
+            more: false,
+        };
+    }
+    listen(
+        table,
+        state,
+        window,
+        parts,
+        part_owns,
+        held,
+        held_owns,
+        sets,
+        before,
+        piece,
+        from,
+        out,
+        printed,
+    )
+}
+
+// Whether what a line can print has room.
+fn has_room(size: usize, printed: usize) -> bool
+    ensures { λ r. ⌜ Tests r (printed + 94208 ≤ size) ⌝ }
+{
+    if size < printed {
+        return false;
+    }
+    if size - printed < 94_208 {
+        return false;
+    }
+    true
+}
+
+// Turns until there is nothing left to do, or what a line can print has no room.
 fn feed_sound(
     table: &mut [u64; 2657],
     state: State,
@@ -114,121 +291,46 @@ fn feed_sound(
     piece: &[u8],
     from: usize,
     out: &mut [u8],
-) -> Fed {
-    let mut a = [0u16; 4096];
-    let mut b = [0u16; 4096];
-    let mut left = [0u16; 4096];
-    let mut rule = [0u16; 4096];
-    let mut label = [0u16; 4096];
-    let mut members = [0u16; 4096];
-    let mut ends = [0u16; 4097];
-    let mut values = [0u64; 4096];
+) -> Turned
+    requires { ⌜ Ready (desk (now table) (now window) (now parts) (now «part_owns») (lent (now held) (now «held_owns») (now sets) (now before)) state) (now out) ⌝ }
+    ensures { λ r. ⌜ Feeds (desk (now (table .entry)) (now (window .entry)) (now (parts .entry)) (now («part_owns» .entry)) (lent (now (held .entry)) (now («held_owns» .entry)) (now (sets .entry)) (now (before .entry))) state) (now (piece .entry)) from (now (out .entry)) (desk (now (table .exit)) (now (window .exit)) (now (parts .exit)) (now («part_owns» .exit)) (lent (now (held .exit)) (now («held_owns» .exit)) (now (sets .exit)) (now (before .exit))) (r .state)) (r .place) (r .printed) (r .more) (now (out .exit)) × (length (now (table .exit)) ≡ 2657) ⌝ }
+{
     let mut now = state;
     let mut at = from;
     let mut printed: usize = 0;
-    while printed + 94_208 <= out.len() {
-        let record = now.record;
-        let mode = now.mode;
-        if let Mode::Working { turns } = mode {
-            let told = tell_rounds(
-                &*table,
-                record,
-                turns,
-                &*held,
-                &*held_owns,
-                sets,
-                &*before,
-                &mut a,
-                &mut b,
-                &mut left,
-                &mut rule,
-                &mut label,
-                &mut members,
-                &mut ends,
-                &mut values,
-                out,
-                printed,
-            );
-            let next = told.mode;
-            let r = told.record;
-            now = State {
-                mode: next,
-                begun: now.begun,
-                line: now.line,
-                record: r,
+    while has_room(out.len(), printed) {
+        let t = turn(
+            table,
+            now,
+            window,
+            parts,
+            part_owns,
+            held,
+            held_owns,
+            sets,
+            before,
+            piece,
+            at,
+            out,
+            printed,
+        );
+        now = t.state;
+        at = t.place;
+        printed = t.printed;
+        if !t.more {
+            return Turned {
+                state: now,
+                place: at,
+                printed: printed,
+                more: false,
             };
-            printed = told.printed;
-        } else {
-            if is_stopped(mode) {
-                return Fed::Taken {
-                    state: now,
-                    place: at,
-                    printed: printed,
-                    more: false,
-                };
-            }
-            let g = gather(piece, at, window, now.begun);
-            at = g.place;
-            if !g.whole {
-                let s = State {
-                    mode: mode,
-                    begun: g.begun,
-                    line: now.line,
-                    record: record,
-                };
-                return Fed::Taken {
-                    state: s,
-                    place: at,
-                    printed: printed,
-                    more: false,
-                };
-            }
-            let told = hear_line(
-                table,
-                now,
-                &*window,
-                g.begun,
-                parts,
-                part_owns,
-                held,
-                held_owns,
-                sets,
-                before,
-                out,
-                printed,
-            );
-            let next = told.mode;
-            let r = told.record;
-            now = State {
-                mode: next,
-                begun: 0,
-                line: line_after(now.line),
-                record: r,
-            };
-            printed = told.printed;
         }
     }
-    Fed::Taken {
+    Turned {
         state: now,
         place: at,
         printed: printed,
         more: true,
-    }
-}
-
-fn copy_in(words: &[u64], table: &mut [u64; 2657]) {
-    let mut i: usize = 0;
-    while i < 2657 {
-        table[i] = words[i];
-        i += 1;
-    }
-}
-
-fn copy_out(table: &[u64; 2657], words: &mut [u64]) {
-    let mut i: usize = 0;
-    while i < 2657 {
-        words[i] = table[i];
-        i += 1;
     }
 }
 
@@ -246,8 +348,20 @@ pub fn feed(
     piece: &[u8],
     from: usize,
     out: &mut [u8],
-) -> Fed {
-    if is_narrow(&*words, &*window, &*parts, &*part_owns, &*out) {
+) -> Fed
+    ensures { λ r. ⌜ FeedSays (desk (now (words .entry)) (now (window .entry)) (now (parts .entry)) (now («part_owns» .entry)) (lent (now (held .entry)) (now («held_owns» .entry)) (now (sets .entry)) (now (before .entry))) state) (now (piece .entry)) from (now (out .entry)) (desk (now (words .exit)) (now (window .exit)) (now (parts .exit)) (now («part_owns» .exit)) (lent (now (held .exit)) (now («held_owns» .exit)) (now (sets .exit)) (now (before .exit)))) (now (out .exit)) r ⌝ }
+{
+    if is_narrow(
+        &*words,
+        &*window,
+        &*parts,
+        &*part_owns,
+        &*held,
+        &*held_owns,
+        &*sets,
+        &*before,
+        &*out,
+    ) {
         return Fed::Refused(Refusal::Buffer);
     }
     let mut table = [0u64; 2657];
@@ -277,42 +391,14 @@ pub fn feed(
                 out,
             );
             copy_out(&table, words);
-            fed
+            let now = fed.state;
+            Fed::Taken {
+                state: now,
+                place: fed.place,
+                printed: fed.printed,
+                more: fed.more,
+            }
         }
         Verdict::Refused(r) => Fed::Refused(r),
     }
-}
-
-// Whether text that ends between two lines ends inside the table or a command.
-fn is_inside(mode: Mode) -> bool {
-    match mode {
-        Mode::Table(expected) => true,
-        Mode::Command => false,
-        Mode::Nodes {
-            order,
-            count,
-            taken,
-            line,
-        } => true,
-        Mode::Working { turns } => false,
-        Mode::Stopped => false,
-    }
-}
-
-// The end of the input: 13 inside a line, 14 inside the table or a command.
-pub fn finish(state: State, out: &mut [u8]) -> Written {
-    if out.len() < 13 {
-        return Written::Refused(Refusal::Buffer);
-    }
-    let mode = state.mode;
-    if is_stopped(mode) {
-        return Written::Length(0);
-    }
-    if 0 < state.begun {
-        return Written::Length(put_refusal(out, 0, Refusal::Line, state.line));
-    }
-    if is_inside(mode) {
-        return Written::Length(put_refusal(out, 0, Refusal::Frame, state.line));
-    }
-    Written::Length(0)
 }

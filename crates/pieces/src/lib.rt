@@ -1,10 +1,12 @@
 // However the bytes arrive: a session's text comes in pieces of any length, and the frames that it prints go out.
 mod copying;
 mod ending;
+mod feeding;
 mod gathering;
 mod judging;
 
 pub use ending::finish;
+pub use feeding::feed;
 use frames::Expected;
 use refusal::Refusal;
 use session::Mode;

@@ -1,0 +1,425 @@
+-- From one desk to the next: bytes that are gathered, a line that is heard, rounds that are told; and turns in a row. Assumes nothing.
+use mathlib.Core.Path.{_≡_, refl, ap, sym, _∙_}
+use mathlib.Core.Bool.{Bool, true, false, cond, true≢false}
+use mathlib.Core.List.{List, [], _∷_, _++_, append-nil, append-assoc}
+use Prim.Native.Nat.{ℕ, zero, suc, _+_, _*_, _-_, _≤_, _<_, min}
+use native.Mathlib.Omega.{arith}
+use native.Mathlib.Nat.{lt-of-not-le}
+use types.Run.{OneOf, miss}
+use denote.Enum.Declared.{tagOf}
+use lib.Dec.{ltb}
+use lib.ListN.{length, take, drop, length-take, length-drop, length-append, take-append-drop}
+use lib.Seq.{sets, length-sets, length-take-le, take-all, take-at, drop-drop}
+use Rattle.lines.proofs.Out.{sets-append}
+use Rattle.update.specs.declared.Record.{Record}
+use Rattle.update.specs.Memories.{Memory}
+use Rattle.update.specs.Calls.{Said, refused, said, Left, Opened, is-open}
+use Rattle.frames.specs.Frames.{frameAt, lineAfter}
+use Rattle.frames.specs.declared.Frame.{Frame}
+use Rattle.frames.specs.declared.Frame.the-variants as frame
+use Rattle.frames.specs.declared.Taken.{Taken}
+use Rattle.frames.specs.declared.Taken.the-variants.{Next, Stopped as StoppedAt}
+use Rattle.frames.specs.Read.{wordsAfter, takenAt}
+use Rattle.frames.proofs.Readings.{words-length}
+use Rattle.engine.specs.Order.{Holding, Going}
+use Rattle.session.specs.Session as session
+use Rattle.session.specs.Session.{stepsTold, before, commandsFrom}
+use Rattle.session.specs.Owed.{owed, onward, Sound, Begun, Whole, orderCall}
+use Rattle.session.specs.Hearing.{Heard, openedBy, called, ordered, commanded, strange, tabled, noded, keptAt, waiting, hearing, Hears}
+use Rattle.session.specs.Telling.{RoundsTold, Rests, ended, full}
+use Rattle.session.specs.Laws.{listens, Pays}
+use Rattle.session.specs.declared.Order.{Order}
+use Rattle.session.specs.declared.Mode.{Mode}
+use Rattle.session.specs.declared.Mode.the-variants.{Table, Command, Nodes, Working, Stopped}
+use Rattle.session.specs.declared.Told.{Told}
+use Rattle.session.proofs.Mode as M
+use Rattle.session.proofs.Owing.{line-pays}
+use Rattle.pieces.specs.declared.State.{State}
+use Rattle.pieces.specs.Feeding.{Desk, desk, tableOf, lineOf, owedFor, Wide, Fits, Settled, Feeds}
+use Rattle.pieces.specs.Gathering.{Gathers}
+use Rattle.pieces.specs.Faring.{Ready, Sized, Fares, atWork, toDo, Turns}
+
+-- ---- turns in a row
+
+pub fares-none : (d : Desk) (piece : List ℕ) (from : ℕ) (out : List ℕ) (printed : ℕ) → Ready d out → Fares d piece from out printed d from out printed
+fares-none d piece from out printed h = record { text = []; ready = h; paid = λ u. refl; shown = refl; next = omega arith }
+
+module _ {d e f : Desk} {piece : List ℕ} {a b c : ℕ} {out out′ out″ : List ℕ} {i j k : ℕ} where
+  pub fares-on : Fares d piece a out i e b out′ j → Fares e piece b out′ j f c out″ k → Fares d piece a out i f c out″ k
+  fares-on x y = record {
+    text = x .text ++ y .text;
+    ready = y .ready;
+    paid = λ u. x .paid u ∙ ap (λ (l : List ℕ). x .text ++ l) (y .paid u) ∙ sym (append-assoc (x .text) (y .text) (owedFor f (drop c piece ++ u)));
+    shown = y .shown ∙ (λ n. sets (x .shown n) (x .next n) (y .text)) ∙ sym (sets-append (x .text) (y .text) out i);
+    next = omega (arith, x .next, y .next, length-append (x .text) (y .text));
+  }
+
+pub sized-on : {d e f : Desk} → Sized d e → Sized e f → Sized d f
+sized-on x y = record {
+  window = y .window ∙ x .window;
+  parts = y .parts ∙ x .parts;
+  part-owns = y .part-owns ∙ x .part-owns;
+  productions = y .productions ∙ x .productions;
+  owns = y .owns ∙ x .owns;
+  sets-size = y .sets-size ∙ x .sets-size;
+  before = y .before ∙ x .before;
+}
+
+pub sized-none : (d : Desk) → Sized d d
+sized-none d = record { window = refl; parts = refl; part-owns = refl; productions = refl; owns = refl; sets-size = refl; before = refl }
+
+-- ---- a call's turns
+
+module _ {d d′ : Desk} {piece : List ℕ} {from place printed : ℕ} {out out′ : List ℕ} (x : Fares d piece from out 0 d′ place out′ printed) where
+  pub fares-out : length out′ ≡ length out
+  fares-out = ap length (x .shown) ∙ length-sets out 0 (x .text)
+
+  -- the last turn leaves nothing to do
+  pub fed-all : listens (d′ .state .mode) ≡ true → ((d′ .state .mode ≡ Stopped → ⊥) → length piece ≤ place) → Feeds d piece from out d′ place printed false out′
+  fed-all idle used = record {
+    text = x .text;
+    fits = x .ready .fits;
+    paid = x .paid;
+    shown = x .shown;
+    length-of = omega (arith, x .next);
+    idle = λ z. idle;
+    used = λ z. used;
+    full = λ z. absurd (true≢false (sym z));
+  }
+
+  -- or what a line can print has no room
+  pub fed-full : (printed + 94208 ≤ length out′ → ⊥) → Feeds d piece from out d′ place printed true out′
+  fed-full h = record {
+    text = x .text;
+    fits = x .ready .fits;
+    paid = x .paid;
+    shown = x .shown;
+    length-of = omega (arith, x .next);
+    idle = λ z. absurd (true≢false z);
+    used = λ z. absurd (true≢false z);
+    full = λ z. omega (arith, x .ready .fits .wide .out-room, lt-of-not-le h);
+  }
+
+-- ---- what is waited for
+
+pub not-working : (mode : Mode) → OneOf (0 ∷ 1 ∷ 2 ∷ 4 ∷ []) (tagOf M.the-type mode) → listens mode ≡ true
+not-working (Table x) k = refl
+not-working Command k = refl
+not-working (Nodes order count taken line) k = refl
+not-working (Working turns) k = absurd (miss (0 ∷ 1 ∷ 2 ∷ 4 ∷ []) 3 tt k)
+not-working Stopped k = refl
+
+at-work-most : (mode : Mode) → atWork mode ≤ 1
+at-work-most (Table x) = omega arith
+at-work-most Command = omega arith
+at-work-most (Nodes order count taken line) = omega arith
+at-work-most (Working turns) = omega arith
+at-work-most Stopped = omega arith
+
+-- ---- the table keeps its length
+
+module _ (t ps os : List ℕ) (m : Memory) (r : Record) where
+  opened-words : (at : ℕ) (left : Left (Said Opened)) → openedBy t ps os m r at left .words ≡ t
+  opened-words at left = by-answer (left .answer) refl
+    where
+      by-answer : (a : Said Opened) → left .answer ≡ a → openedBy t ps os m r at left .words ≡ t
+      by-answer (refused n) e = rw e
+      by-answer (said is-open) e = rw e
+
+  called-words : (order : Order) (count at : ℕ) → called t ps os m r order count at .words ≡ t
+  unfolding called
+  called-words order count at = opened-words at (orderCall order t m r (take (min count 513) ps) (take (min count 513) os))
+
+  ordered-words : (order : Order) (count line : ℕ) → ordered t ps os m r order count line .words ≡ t
+  ordered-words order zero line = called-words order zero line
+  ordered-words order (suc n) line = refl
+
+  strange-words : (f : Frame) (line : ℕ) → strange t ps os m r f line .words ≡ t
+  strange-words (frame.Header a b) line = refl
+  strange-words (frame.Symbol a b) line = refl
+  strange-words (frame.Production a b c) line = refl
+  strange-words (frame.Equation a b c d) line = refl
+  strange-words (frame.Node a b) line = refl
+  strange-words (frame.Load a) line = refl
+  strange-words (frame.Replace a b) line = refl
+  strange-words frame.Dump line = refl
+  strange-words (frame.Refused refusal own) line = refl
+  strange-words frame.Over line = refl
+
+  commanded-words : (f : Frame) (line : ℕ) → commanded t ps os m r f line .words ≡ t
+  unfolding commanded
+  commanded-words (frame.Header a b) line = refl
+  commanded-words (frame.Symbol a b) line = refl
+  commanded-words (frame.Production a b c) line = refl
+  commanded-words (frame.Equation a b c d) line = refl
+  commanded-words (frame.Node a b) line = refl
+  commanded-words (frame.Load count) line = ordered-words _ count line
+  commanded-words (frame.Replace point count) line = ordered-words _ count line
+  commanded-words frame.Dump line = refl
+  commanded-words (frame.Refused refusal own) line = refl
+  commanded-words frame.Over line = refl
+
+noded-words : (t ps os : List ℕ) (m : Memory) (r : Record) (order : Order) (count taken at : ℕ) (f : Frame) (line : ℕ) → noded order count taken at f line t ps os m r .words ≡ t
+unfolding noded
+noded-words t ps os m r order count taken at (frame.Header a b) line = refl
+noded-words t ps os m r order count taken at (frame.Symbol a b) line = refl
+noded-words t ps os m r order count taken at (frame.Production a b c) line = refl
+noded-words t ps os m r order count taken at (frame.Equation a b c d) line = refl
+noded-words t ps os m r order count taken at (frame.Node p o) line = by-test (ltb (taken + 1) count)
+  where
+    by-test : (b : Bool) → cond b (waiting t (keptAt taken p ps) (keptAt taken o os) m r (Nodes order count (taken + 1) at)) (called t (keptAt taken p ps) (keptAt taken o os) m r order count at) .words ≡ t
+    by-test true = refl
+    by-test false = called-words t (keptAt taken p ps) (keptAt taken o os) m r order count at
+noded-words t ps os m r order count taken at (frame.Load a) line = refl
+noded-words t ps os m r order count taken at (frame.Replace a b) line = refl
+noded-words t ps os m r order count taken at frame.Dump line = refl
+noded-words t ps os m r order count taken at (frame.Refused refusal own) line = refl
+noded-words t ps os m r order count taken at frame.Over line = refl
+
+tabled-words : (w ps os : List ℕ) (m : Memory) (x : Taken) → tabled w ps os m x .words ≡ w
+tabled-words w ps os m (Next y) = refl
+tabled-words w ps os m (StoppedAt refusal line) = refl
+
+heard-size : (mode : Mode) (f : Frame) (line : ℕ) (t ps os : List ℕ) (m : Memory) (r : Record) → length (hearing mode f line t ps os m r .words) ≡ length t
+unfolding hearing
+heard-size (Table x) f line t ps os m r = ap length (tabled-words (wordsAfter t x f) ps os m (takenAt t x f line)) ∙ words-length t x f
+heard-size Command f line t ps os m r = ap length (commanded-words t ps os m r f line)
+heard-size (Nodes order count taken at) f line t ps os m r = ap length (noded-words t ps os m r order count taken at f line)
+heard-size (Working turns) f line t ps os m r = refl
+heard-size Stopped f line t ps os m r = refl
+
+-- ---- the desk stays wide
+
+still-wide : (d d′ : Desk) (out out′ : List ℕ) → Wide (d .words) (d .window) (d .parts) (d .partOwns) (d .memory) out → length (d′ .words) ≡ 2657 → Sized d d′ → length out′ ≡ length out
+    → Wide (d′ .words) (d′ .window) (d′ .parts) (d′ .partOwns) (d′ .memory) out′
+still-wide d d′ out out′ w n k e = record {
+  words-room = omega arith;
+  window-room = omega (arith, w .window-room, k .window);
+  parts-room = omega (arith, w .parts-room, k .parts);
+  owns-room = omega (arith, w .owns-room, k .part-owns);
+  room = record {
+    productions = omega (arith, w .room .productions, k .productions);
+    owns = omega (arith, w .room .owns, k .owns);
+    sets = omega (arith, w .room .sets, k .sets-size);
+    before = omega (arith, w .room .before, k .before);
+  };
+  out-room = omega (arith, w .out-room, e);
+}
+
+-- ---- from a state on: w the window, b the bytes of the begun line
+module _ (t w ps os : List ℕ) (m : Memory) (s : State) (piece : List ℕ) (from : ℕ) (out : List ℕ) (printed : ℕ) (ready : Ready (desk t w ps os m s) out) where
+  abbrev here : Desk
+  here = desk t w ps os m s
+
+  table-whole : tableOf here ≡ t
+  table-whole = take-all 2657 t (omega (arith, ready .size))
+
+  pub sound-here : Sound (s .mode) t m (s .«record»)
+  sound-here = rw (sym table-whole) (ready .fits .sound)
+
+  -- bytes are gathered
+  module _ (w′ : List ℕ) (n place : ℕ) (whole : Bool) (g : Gathers piece from w (s .begun) n place whole w′) (size : length w′ ≡ length w) where
+    gathered : (u : List ℕ) → lineOf here ++ (drop from piece ++ u) ≡ take n w′ ++ (drop place piece ++ u)
+    gathered u =
+        let k : from + (place - from) ≡ place = omega (arith, g .onward) in
+        let e : drop (place - from) (drop from piece) ≡ drop place piece = drop-drop (place - from) from piece ∙ ap (λ (i : ℕ). drop i piece) k in
+        let q : take (place - from) (drop from piece) ++ drop place piece ≡ drop from piece = ap (λ (l : List ℕ). take (place - from) (drop from piece) ++ l) (sym e) ∙ take-append-drop (place - from) (drop from piece) in
+        ap (λ (l : List ℕ). lineOf here ++ (l ++ u)) (sym q)
+        ∙ ap (λ (l : List ℕ). lineOf here ++ l) (append-assoc (take (place - from) (drop from piece)) (drop place piece) u)
+        ∙ sym (append-assoc (lineOf here) (take (place - from) (drop from piece)) (drop place piece ++ u))
+        ∙ ap (λ (l : List ℕ). l ++ (drop place piece ++ u)) (sym (g .taken))
+
+    -- a line that is decided stands in the window
+    pub reaches : whole ≡ true → n ≤ length w′
+    reaches e =
+        let k : length (take n w′) ≡ length (take (s .begun) w) + length (take (place - from) (drop from piece)) = ap length (g .taken) ∙ length-append (take (s .begun) w) (take (place - from) (drop from piece)) in
+        omega (arith, length-take n w′, length-take (s .begun) w, length-take (place - from) (drop from piece), length-drop from piece, ready .fits .begun, ready .fits .wide .window-room, g .count, g .moved e)
+
+    -- and the line is not decided yet
+    abbrev begunThen : State
+    begunThen = record { mode = s .mode; begun = n; line = s .line; «record» = s .«record» }
+
+    pub line-waits : whole ≡ false → listens (s .mode) ≡ true → Turns here piece from out printed (desk t w′ ps os m begunThen) place out printed false
+    line-waits e on = record {
+      fares = record {
+        text = [];
+        ready = record {
+          fits = record {
+            wide = still-wide here (desk t w′ ps os m begunThen) out out (ready .fits .wide) (ready .size) (record { window = size; parts = refl; part-owns = refl; productions = refl; owns = refl; sets-size = refl; before = refl }) refl;
+            begun = omega (arith, g .waits e .few, length-take n w′, ready .fits .wide .window-room);
+            line = g .waits e;
+            sound = ready .fits .sound;
+          };
+          size = ready .size;
+        };
+        paid = λ u. ap (λ (l : List ℕ). owed (s .mode) (tableOf here) ps os m (s .«record») (s .line) l) (gathered u);
+        shown = refl;
+        next = omega arith;
+      };
+      onward = λ z. absurd (true≢false (sym z));
+      idle = λ z. on;
+      used = λ z h. g .used e;
+    }
+
+    -- or it is heard
+    abbrev frameOf : Frame
+    frameOf = frameAt (take n w′) 0 (s .line) .frame
+
+    abbrev heard : Heard
+    heard = hearing (s .mode) frameOf (s .line) t ps os m (s .«record»)
+
+    module _ (told : Told) (out′ t′ ps′ os′ : List ℕ) (m′ : Memory) (h : Hears heard told printed out out′ t′ ps′ os′ m′) (line′ : ℕ) (e : line′ ≡ lineAfter (s .line)) where
+      abbrev after : Desk
+      after = desk t′ w′ ps′ os′ m′ (record { mode = told .mode; begun = 0; line = line′; «record» = told .«record» })
+
+      module _ (k : Sized here after) (yes : whole ≡ true) (on : listens (s .mode) ≡ true) where
+        pays : Pays (s .mode) t ps os m (s .«record») (s .line) (take n w′) heard
+        pays = line-pays (s .mode) t ps os m (s .«record») (s .line) (take n w′) on sound-here (ready .fits .wide .room) (ready .size) (ready .fits .wide .parts-room) (ready .fits .wide .owns-room) (g .decided yes)
+
+        size-after : length t′ ≡ 2657
+        size-after = ap length (h .words-then) ∙ heard-size (s .mode) frameOf (s .line) t ps os m (s .«record») ∙ ready .size
+
+        table-after : tableOf after ≡ heard .words
+        table-after = take-all 2657 t′ (omega (arith, size-after)) ∙ h .words-then
+
+        out-after : length out′ ≡ length out
+        out-after = ap length (h .shown) ∙ length-sets out printed (heard .text)
+
+        owed-after : (u : List ℕ) → owedFor after u ≡ owed (heard .mode) (heard .words) (heard .parts) (heard .partOwns) (heard .memory) (heard .next) (lineAfter (s .line)) u
+        owed-after u = rw (table-after, h .parts-then, h .owns-then, h .memory, h .next, h .mode, e)
+
+        pub line-heard : Turns here piece from out printed after place out′ (told .printed) true
+        line-heard = record {
+          fares = record {
+            text = heard .text;
+            ready = record {
+              fits = record {
+                wide = still-wide here after out out′ (ready .fits .wide) size-after k out-after;
+                begun = omega arith;
+                line = record { few = omega arith; no-end = λ i z. absurd (omega arith) };
+                sound = rw (table-after, h .memory, h .next, h .mode) (pays .sound);
+              };
+              size = size-after;
+            };
+            paid = λ u.
+                ap (λ (l : List ℕ). owed (s .mode) (tableOf here) ps os m (s .«record») (s .line) l) (gathered u)
+                ∙ ap (λ (l : List ℕ). owed (s .mode) l ps os m (s .«record») (s .line) (take n w′ ++ (drop place piece ++ u))) table-whole
+                ∙ pays .owing (drop place piece ++ u)
+                ∙ ap (λ (l : List ℕ). heard .text ++ l) (sym (owed-after (drop place piece ++ u)));
+            shown = h .shown;
+            next = h .place;
+          };
+          onward = λ z. omega (arith, g .moved yes, at-work-most (told .mode), out-after, h .place);
+          idle = λ z. absurd (true≢false z);
+          used = λ z. absurd (true≢false z);
+        }
+
+  -- some rounds: what is told then and what is left
+  module _ (s′ : List ℕ) (text : List ℕ) (free : ℕ) (m′ : Memory) (r′ : Record) where
+    rounds-owed : {mode : Mode} {rest : session.Told} → Rests t m′ r′ free mode rest → (turns : ℕ) → stepsTold turns t (s .«record») m ≡ before text rest
+        → owed (Working turns) t ps os m (s .«record») (s .line) s′ ≡ text ++ owed mode t ps os m′ r′ (s .line) s′
+    unfolding owed
+    rounds-owed (ended e k) turns q = rw (q, e) (ap (λ (l : List ℕ). l ++ onward s′ t 0 (s .line) r′ m′) (append-nil text))
+    rounds-owed (full left e k few) turns q = rw (q, e) (append-assoc text (stepsTold (suc left) t r′ m′ .text) (onward s′ t 0 (s .line) (stepsTold (suc left) t r′ m′ .next) (stepsTold (suc left) t r′ m′ .memory)))
+
+  rounds-sound : {free : ℕ} {m′ : Memory} {r′ : Record} {mode : Mode} {rest : session.Told} → Rests t m′ r′ free mode rest → Sound mode t m′ r′
+  rounds-sound (ended e k) = k
+  rounds-sound (full left e k few) = k
+
+  -- either the update is done with or the buffer is full
+  rounds-less : {free : ℕ} {m′ : Memory} {r′ : Record} {mode : Mode} {rest : session.Told} → Rests t m′ r′ free mode rest → (printed′ : ℕ) → printed + 94208 ≤ length out → printed ≤ printed′ → printed′ + free ≡ length out
+      → atWork mode + (length out - printed′) < 1 + (length out - printed)
+  rounds-less (ended e k) printed′ a b c = omega arith
+  rounds-less (full left e k few) printed′ a b c = omega arith
+
+  module _ (turns : ℕ) (working : s .mode ≡ Working turns) (told : Told) (m′ : Memory) (out′ : List ℕ) (h : RoundsTold t m (s .«record») turns printed out told m′ out′) where
+    abbrev then : Desk
+    then = desk t w ps os m′ (record { mode = told .mode; begun = s .begun; line = s .line; «record» = told .«record» })
+
+    out-then : length out′ ≡ length out
+    out-then = ap length (h .shown) ∙ length-sets out printed (h .text)
+
+    at-work : atWork (s .mode) ≡ 1
+    at-work = rw working
+
+    pub rounds-told : Sized here then → printed + 94208 ≤ length out → Turns here piece from out printed then from out′ (told .printed) true
+    rounds-told k space = record {
+      fares = record {
+        text = h .text;
+        ready = record {
+          fits = record {
+            wide = still-wide here then out out′ (ready .fits .wide) (ready .size) k out-then;
+            begun = ready .fits .begun;
+            line = ready .fits .line;
+            sound = rw table-whole (rounds-sound (h .rests));
+          };
+          size = ready .size;
+        };
+        paid = λ u. rw (table-whole, working) (rounds-owed (lineOf here ++ (drop from piece ++ u)) (h .text) (h .free) m′ (told .«record») (h .rests) turns (h .whole));
+        shown = h .shown;
+        next = h .place;
+      };
+      onward = λ z. omega (arith, at-work, out-then, rounds-less (h .rests) (told .printed) space (omega (arith, h .place)) (h .room));
+      idle = λ z. absurd (true≢false z);
+      used = λ z. absurd (true≢false z);
+    }
+
+  -- nothing is done behind the end
+  pub over : s .mode ≡ Stopped → Turns here piece from out printed here from out printed false
+  over e = record {
+    fares = fares-none here piece from out printed ready;
+    onward = λ z. absurd (true≢false (sym z));
+    idle = λ z. rw e;
+    used = λ z h. absurd (h e);
+  }
+
+-- ---- a call runs on a copy of the table's words
+module _ (words t w ps os : List ℕ) (m : Memory) (s : State) (out : List ℕ) (copy : t ≡ take 2657 words) where
+  pub settled-of : Fits (desk words w ps os m s) out → Settled s t w m
+  settled-of f = record { begun = f .begun; line = f .line; sound = rw copy (f .sound) }
+
+  module _ (wide : Wide words w ps os m out) (settled : Settled s t w m) where
+    copy-size : length t ≡ 2657
+    copy-size = ap length copy ∙ length-take-le 2657 words (wide .words-room)
+
+    copy-whole : take 2657 t ≡ t
+    copy-whole = take-all 2657 t (omega (arith, copy-size))
+
+    pub fits-of : Fits (desk words w ps os m s) out
+    fits-of = record { wide = wide; begun = settled .begun; line = settled .line; sound = rw (sym copy) (settled .sound) }
+
+    pub ready-of : Ready (desk t w ps os m s) out
+    ready-of = record {
+      fits = record {
+        wide = record { words-room = omega (arith, copy-size); window-room = wide .window-room; parts-room = wide .parts-room; owns-room = wide .owns-room; room = wide .room; out-room = wide .out-room };
+        begun = settled .begun;
+        line = settled .line;
+        sound = rw copy-whole (settled .sound);
+      };
+      size = copy-size;
+    }
+
+    module _ (piece : List ℕ) (from : ℕ) (words′ t′ w′ ps′ os′ : List ℕ) (m′ : Memory) (s′ : State) (place printed : ℕ) (more : Bool) (out′ : List ℕ) (size : length t′ ≡ 2657) (back : words′ ≡ t′ ++ drop 2657 words) where
+      back-table : take 2657 words′ ≡ take 2657 t′
+      back-table = ap (take 2657) back ∙ take-at t′ (drop 2657 words) 2657 size ∙ sym (take-all 2657 t′ (omega (arith, size)))
+
+      same-table : take 2657 words ≡ take 2657 t
+      same-table = sym copy ∙ sym copy-whole
+
+      pub copied-back : Feeds (desk t w ps os m s) piece from out (desk t′ w′ ps′ os′ m′ s′) place printed more out′
+          → Feeds (desk words w ps os m s) piece from out (desk words′ w′ ps′ os′ m′ s′) place printed more out′
+      copied-back f = record {
+        text = f .text;
+        fits = record {
+          wide = record { words-room = omega (arith, size, ap length back, length-append t′ (drop 2657 words)); window-room = f .fits .wide .window-room; parts-room = f .fits .wide .parts-room; owns-room = f .fits .wide .owns-room; room = f .fits .wide .room; out-room = f .fits .wide .out-room };
+          begun = f .fits .begun;
+          line = f .fits .line;
+          sound = rw back-table (f .fits .sound);
+        };
+        paid = λ u. rw (same-table, back-table) (f .paid u);
+        shown = f .shown;
+        length-of = f .length-of;
+        idle = f .idle;
+        used = f .used;
+        full = f .full;
+      }

@@ -1,0 +1,52 @@
+-- The turns of a call: a line of the piece or some rounds, from one desk to the next. Assumes nothing.
+use mathlib.Core.Path.{_≡_}
+use mathlib.Core.Bool.{Bool, true, false}
+use mathlib.Core.List.{List, [], _++_}
+use Prim.Native.Nat.{ℕ, _+_, _*_, _-_, _≤_, _<_}
+use lib.ListN.{length, drop}
+use lib.Seq.{sets}
+use Rattle.update.specs.Memories.{Memory}
+use Rattle.session.specs.Laws.{listens}
+use Rattle.session.specs.declared.Mode.{Mode}
+use Rattle.session.specs.declared.Mode.the-variants.{Table, Command, Nodes, Working, Stopped}
+use Rattle.pieces.specs.Feeding.{Desk, Fits, owedFor}
+
+-- a desk whose words are a table's and no more
+pub record Ready (d : Desk) (out : List ℕ) : Type 0 where
+  pub fits : Fits d out
+  pub size : length (d .words) ≡ 2657
+
+-- no buffer has become longer or shorter
+pub record Sized (d d′ : Desk) : Type 0 where
+  pub window : length (d′ .window) ≡ length (d .window)
+  pub parts : length (d′ .parts) ≡ length (d .parts)
+  pub part-owns : length (d′ .partOwns) ≡ length (d .partOwns)
+  pub productions : length (d′ .memory .productions) ≡ length (d .memory .productions)
+  pub owns : length (d′ .memory .owns) ≡ length (d .memory .owns)
+  pub sets-size : length (d′ .memory .sets) ≡ length (d .memory .sets)
+  pub before : length (d′ .memory .before) ≡ length (d .memory .before)
+
+-- what was owed is what is printed and what is owed then: the text stands in the buffer from `printed` on
+pub record Fares (d : Desk) (piece : List ℕ) (from : ℕ) (out : List ℕ) (printed : ℕ) (d′ : Desk) (place : ℕ) (out′ : List ℕ) (printed′ : ℕ) : Type 0 where
+  pub text : List ℕ
+  pub ready : Ready d′ out′
+  pub paid : (u : List ℕ) → owedFor d (drop from piece ++ u) ≡ text ++ owedFor d′ (drop place piece ++ u)
+  pub shown : out′ ≡ sets out printed text
+  pub next : printed′ ≡ printed + length text
+
+-- what is left to do falls with each turn: bytes of the piece, rounds, room
+abbrev pub atWork : Mode → ℕ
+atWork (Table x) = 0
+atWork Command = 0
+atWork (Nodes order count taken command) = 0
+atWork (Working turns) = 1
+atWork Stopped = 0
+
+abbrev pub toDo : Desk → List ℕ → ℕ → List ℕ → ℕ → ℕ
+toDo d piece place out printed = 2 * (length piece - place) + atWork (d .state .mode) + (length out - printed)
+
+pub record Turns (d : Desk) (piece : List ℕ) (from : ℕ) (out : List ℕ) (printed : ℕ) (d′ : Desk) (place : ℕ) (out′ : List ℕ) (printed′ : ℕ) (more : Bool) : Type 0 where
+  pub fares : Fares d piece from out printed d′ place out′ printed′
+  pub onward : more ≡ true → toDo d′ piece place out′ printed′ < toDo d piece from out printed
+  pub idle : more ≡ false → listens (d′ .state .mode) ≡ true
+  pub used : more ≡ false → (d′ .state .mode ≡ Stopped → ⊥) → length piece ≤ place
