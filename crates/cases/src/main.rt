@@ -1,6 +1,6 @@
 // Stored sessions, each from the file that an argument names: its name, and then all that the session prints.
 
-// One session; false where its file can't be read or something can't be printed.
+// One session; false where its file can't be read or its name can't be printed.
 fn tell(path: &[u8]) -> bool {
     let fd = os::open_read(path);
     if fd < 0 {
@@ -8,9 +8,11 @@ fn tell(path: &[u8]) -> bool {
         return false;
     }
     let is_named = io::write_all(1, path) && io::write_all(1, b"\n");
-    let is_told = is_named && channel::serve(fd, 1);
+    if is_named {
+        channel::serve(fd, 1);
+    }
     libc::close(fd);
-    is_told
+    is_named
 }
 
 // The session of argument i.

@@ -2,8 +2,8 @@
 mod copying;
 mod ending;
 mod feeding;
+mod fitting;
 mod gathering;
-mod judging;
 
 pub use ending::finish;
 pub use feeding::feed;

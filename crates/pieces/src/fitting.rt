@@ -1,10 +1,10 @@
 // Whether the memory lent can be a session's: a public call takes any.
 use crate::State;
+use frames::Expected;
+use frames::next_of;
 use judging::judge_ground;
 use judging::judge_holding;
 use judging::judge_step;
-use frames::Expected;
-use frames::next_of;
 use refusal::Refusal;
 use refusal::Verdict;
 use session::Mode;

@@ -3,10 +3,10 @@ use Prim.Native.Nat.{_≤_}
 use native.Mathlib.Omega.{arith}
 use lib.ListN.{length}
 use Rattle.pieces.proofs.Deciding.{tests-no, tests-least}
-use Rattle.pieces.proofs.judging.is_narrow.Statement.{statement}
-use Rattle.pieces.proofs.judging.is_narrow.Tie as tie
-use Rattle.pieces.proofs.judging.is_narrow.Reads as reads
-use Rattle.pieces.proofs.judging.is_narrow.Lts as lts
+use Rattle.pieces.proofs.fitting.is_narrow.Statement.{statement}
+use Rattle.pieces.proofs.fitting.is_narrow.Tie as tie
+use Rattle.pieces.proofs.fitting.is_narrow.Reads as reads
+use Rattle.pieces.proofs.fitting.is_narrow.Lts as lts
 
 pub is-narrow-spec : {M : Type 1} → statement M
 is-narrow-spec =

@@ -13,8 +13,8 @@ use Rattle.frames.proofs.Sofar.{awaits-so}
 use Rattle.pieces.specs.Feeding.{Decides}
 use Rattle.pieces.proofs.Deciding.{decides-yes, decides-no, refused-not, tested-not}
 use Rattle.pieces.proofs.Walking.{OnTheWay, begins, passes, goes-on, none-left, ready-so}
-use Rattle.pieces.proofs.judging.judge_so_far.Statement.{statement}
-use Rattle.pieces.proofs.judging.judge_so_far.Tie as tie
+use Rattle.pieces.proofs.fitting.judge_so_far.Statement.{statement}
+use Rattle.pieces.proofs.fitting.judge_so_far.Tie as tie
 
 abbrev Inv-loop : tie.InvT-loop
 Inv-loop table expected x₀ still₀ x still = OnTheWay table expected x still

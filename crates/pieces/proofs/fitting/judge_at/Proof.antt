@@ -15,8 +15,8 @@ use Rattle.frames.specs.declared.Expected.{Expected}
 use Rattle.frames.specs.declared.Expected.the-variants.{AtHeader, AtSymbol, AtProduction, AtEquation, Ended}
 use Rattle.pieces.specs.Feeding.{Decides}
 use Rattle.pieces.proofs.Deciding.{decides-zero, decides-as, decides-no}
-use Rattle.pieces.proofs.judging.judge_at.Statement.{statement}
-use Rattle.pieces.proofs.judging.judge_at.Tie as tie
+use Rattle.pieces.proofs.fitting.judge_at.Statement.{statement}
+use Rattle.pieces.proofs.fitting.judge_at.Tie as tie
 
 module _ (t : List ℕ) (x : Expected) where
   judged : (e : Expected) (v : Verdict) → x ≡ e → isOn e ≡ true → verdictOf v ≡ refusalAt t (entryOf e) → Decides v ((isOn x ≡ true) × (refusalAt t (entryOf x) ≡ 0))

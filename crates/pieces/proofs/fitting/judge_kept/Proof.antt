@@ -19,8 +19,8 @@ use Rattle.engine.specs.Order.{groundNumbers, heldNumbers, Grounded, Holding}
 use Rattle.engine.proofs.Orders.{grounded, ground-none, or-zero}
 use Rattle.pieces.specs.Feeding.{Decides}
 use Rattle.pieces.proofs.Deciding.{decides-zero, decides-as, decides-yes, decides-no, refused-not}
-use Rattle.pieces.proofs.judging.judge_kept.Statement.{statement}
-use Rattle.pieces.proofs.judging.judge_kept.Tie as tie
+use Rattle.pieces.proofs.fitting.judge_kept.Statement.{statement}
+use Rattle.pieces.proofs.fitting.judge_kept.Tie as tie
 
 module _ (t : List ℕ) (m : Memory) (r : Record) where
   held-number : r .held ≡ true → firstRefusal (heldNumbers t (m .productions) (m .owns) r) ≡ heldRefusal t m r

@@ -14,10 +14,10 @@ use Rattle.frames.specs.Walk.{isOn}
 use Rattle.frames.proofs.Expected as E
 use Rattle.pieces.specs.Feeding.{Tests}
 use Rattle.pieces.proofs.Deciding.{tests-yes, tests-no, tests-equal}
-use Rattle.pieces.proofs.judging.is_same.Statement.{statement}
-use Rattle.pieces.proofs.judging.is_same.Tie as tie
-use Rattle.pieces.proofs.judging.is_same.Reads as reads
-use Rattle.pieces.proofs.judging.is_same.Lts as lts
+use Rattle.pieces.proofs.fitting.is_same.Statement.{statement}
+use Rattle.pieces.proofs.fitting.is_same.Tie as tie
+use Rattle.pieces.proofs.fitting.is_same.Reads as reads
+use Rattle.pieces.proofs.fitting.is_same.Lts as lts
 
 -- one kind is expected and another
 kinds-apart : (a b x : Expected) (ks : List ℕ) → a ≡ x → OneOf ks (tagOf E.the-type b) → (OneOf ks (tagOf E.the-type x) → ⊥) → Tests false ((a ≡ b) × (isOn a ≡ true))

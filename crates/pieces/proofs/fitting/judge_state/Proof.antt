@@ -23,8 +23,8 @@ use Rattle.session.specs.declared.Mode.the-variants.{Table, Command, Nodes, Wor
 use Rattle.pieces.specs.Feeding.{Settled, Decides}
 use Rattle.pieces.specs.declared.State.{State}
 use Rattle.pieces.proofs.Deciding.{decides-zero, decides-as, decides-yes, decides-no, tested-not}
-use Rattle.pieces.proofs.judging.judge_state.Statement.{statement}
-use Rattle.pieces.proofs.judging.judge_state.Tie as tie
+use Rattle.pieces.proofs.fitting.judge_state.Statement.{statement}
+use Rattle.pieces.proofs.fitting.judge_state.Tie as tie
 
 stepping : (t : List ℕ) (m : Memory) (r : Record) (v : Verdict) → verdictOf v ≡ stepRefusal t m r → Decides v (Going t m r)
 stepping t m r v e = decides-as (decides-zero v (stepRefusal t m r) e) (going t m r) (step-none t m r)

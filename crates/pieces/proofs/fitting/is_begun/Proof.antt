@@ -9,10 +9,10 @@ use lib.ListN.{length, take, getD, length-take}
 use lib.Seq.{getD-take, length-take-le}
 use Rattle.session.specs.Owed.{Begun}
 use Rattle.pieces.proofs.Deciding.{tests-yes, tests-no}
-use Rattle.pieces.proofs.judging.is_begun.Statement.{statement}
-use Rattle.pieces.proofs.judging.is_begun.Tie as tie
-use Rattle.pieces.proofs.judging.is_begun.Reads as reads
-use Rattle.pieces.proofs.judging.is_begun.Lts as lts
+use Rattle.pieces.proofs.fitting.is_begun.Statement.{statement}
+use Rattle.pieces.proofs.fitting.is_begun.Tie as tie
+use Rattle.pieces.proofs.fitting.is_begun.Reads as reads
+use Rattle.pieces.proofs.fitting.is_begun.Lts as lts
 
 module _ (window : List ℕ) (begun : ℕ) where
   begun-no : (i : ℕ) → i < begun → begun ≤ length window → getD window i 0 ≡ 10 → (begun ≤ 28) × Begun (take begun window) → ⊥
@@ -29,38 +29,38 @@ Inv-loop window begun i₀ i = (i ≤ begun) × ((k : ℕ) → k < i → getD wi
 abbrev μ-loop : tie.MeasureT-loop
 μ-loop window begun i₀ i = begun - i
 
--- src/judging.rt:75:9
+-- src/fitting.rt:75:9
 returns : tie.Need-returns Inv-loop μ-loop
 returns c = tests-no (λ w. let h = w .0 in omega arith)
 
--- src/judging.rt:78:5
+-- src/fitting.rt:78:5
 loop-holds : tie.Need-loop-holds Inv-loop μ-loop
 loop-holds c = search needs
 
--- src/judging.rt:79:12
+-- src/fitting.rt:79:12
 shared-slice-read-if2 : tie.Need-shared-slice-read-if2 Inv-loop μ-loop
 shared-slice-read-if2 c = search needs
 
--- src/judging.rt:80:13
+-- src/fitting.rt:80:13
 returns-2 : tie.Need-returns-2 Inv-loop μ-loop
 returns-2 c =
     let a = c .before .before .before .before .before .args in
     let i = c .before .before .before .loop .i in
     tests-no (begun-no (a .window .now) (a .begun) i (omega arith) (omega arith) (c .if2 .taken))
 
--- src/judging.rt:82:9
+-- src/fitting.rt:82:9
 add-i : tie.Need-add-i Inv-loop μ-loop
 add-i c = search needs
 
--- src/judging.rt:78:5
+-- src/fitting.rt:78:5
 loop-less : tie.Need-loop-less Inv-loop μ-loop
 loop-less c = search needs
 
--- src/judging.rt:78:5
+-- src/fitting.rt:78:5
 loop-again : tie.Need-loop-again Inv-loop μ-loop
 loop-again c = (search needs, below-more _ _ (c .before .before .before .loop .inv .1) (c .if2 .left))
 
--- src/judging.rt:70:1
+-- src/fitting.rt:70:1
 returns-3 : tie.Need-returns-3 Inv-loop μ-loop
 returns-3 c =
     let a = c .before .before .before .args in
