@@ -1,34 +1,25 @@
 -- From one desk to the next: bytes that are gathered, a line that is heard, rounds that are told; and turns in a row. Assumes nothing.
 use mathlib.Core.Path.{_≡_, refl, ap, sym, _∙_}
-use mathlib.Core.Bool.{Bool, true, false, cond, true≢false}
+use mathlib.Core.Bool.{Bool, true, false, true≢false}
 use mathlib.Core.List.{List, [], _∷_, _++_, append-nil, append-assoc}
 use Prim.Native.Nat.{ℕ, zero, suc, _+_, _*_, _-_, _≤_, _<_, min}
 use native.Mathlib.Omega.{arith}
 use native.Mathlib.Nat.{lt-of-not-le}
 use types.Run.{OneOf, miss}
 use denote.Enum.Declared.{tagOf}
-use lib.Dec.{ltb}
 use lib.ListN.{length, take, drop, length-take, length-drop, length-append, take-append-drop}
 use lib.Seq.{sets, length-sets, length-take-le, take-all, take-at, drop-drop}
 use Rattle.lines.proofs.Out.{sets-append}
 use Rattle.update.specs.declared.Record.{Record}
 use Rattle.update.specs.Memories.{Memory}
-use Rattle.update.specs.Calls.{Said, refused, said, Left, Opened, is-open}
 use Rattle.frames.specs.Frames.{frameAt, lineAfter}
 use Rattle.frames.specs.declared.Frame.{Frame}
-use Rattle.frames.specs.declared.Frame.the-variants as frame
-use Rattle.frames.specs.declared.Taken.{Taken}
-use Rattle.frames.specs.declared.Taken.the-variants.{Next, Stopped as StoppedAt}
-use Rattle.frames.specs.Read.{wordsAfter, takenAt}
-use Rattle.frames.proofs.Readings.{words-length}
-use Rattle.engine.specs.Order.{Holding, Going}
 use Rattle.session.specs.Session as session
 use Rattle.session.specs.Session.{stepsTold, before, commandsFrom}
-use Rattle.session.specs.Owed.{owed, onward, Sound, Begun, Whole, orderCall}
-use Rattle.session.specs.Hearing.{Heard, openedBy, called, ordered, commanded, strange, tabled, noded, keptAt, waiting, hearing, Hears}
+use Rattle.session.specs.Owed.{owed, onward, Sound}
+use Rattle.session.specs.Hearing.{Heard, hearing, Hears, Spacious}
 use Rattle.session.specs.Telling.{RoundsTold, Rests, ended, full}
 use Rattle.session.specs.Laws.{listens, Pays}
-use Rattle.session.specs.declared.Order.{Order}
 use Rattle.session.specs.declared.Mode.{Mode}
 use Rattle.session.specs.declared.Mode.the-variants.{Table, Command, Nodes, Working, Stopped}
 use Rattle.session.specs.declared.Told.{Told}
@@ -37,12 +28,13 @@ use Rattle.session.proofs.Owing.{line-pays}
 use Rattle.pieces.specs.declared.State.{State}
 use Rattle.pieces.specs.Feeding.{Desk, desk, tableOf, lineOf, owedFor, Wide, Fits, Settled, Feeds}
 use Rattle.pieces.specs.Gathering.{Gathers}
+use Rattle.pieces.proofs.Bounds.{Modest, heard-modest}
 use Rattle.pieces.specs.Faring.{Ready, Sized, Fares, atWork, toDo, Turns}
 
 -- ---- turns in a row
 
-pub fares-none : (d : Desk) (piece : List ℕ) (from : ℕ) (out : List ℕ) (printed : ℕ) → Ready d out → Fares d piece from out printed d from out printed
-fares-none d piece from out printed h = record { text = []; ready = h; paid = λ u. refl; shown = refl; next = omega arith }
+pub fares-none : (d : Desk) (piece : List ℕ) (from : ℕ) (out : List ℕ) (printed : ℕ) → Ready d out → printed ≤ length out → Fares d piece from out printed d from out printed
+fares-none d piece from out printed h k = record { text = []; ready = h; paid = λ u. refl; shown = refl; next = omega arith; within = k }
 
 module _ {d e f : Desk} {piece : List ℕ} {a b c : ℕ} {out out′ out″ : List ℕ} {i j k : ℕ} where
   pub fares-on : Fares d piece a out i e b out′ j → Fares e piece b out′ j f c out″ k → Fares d piece a out i f c out″ k
@@ -52,6 +44,7 @@ module _ {d e f : Desk} {piece : List ℕ} {a b c : ℕ} {out out′ out″ : Li
     paid = λ u. x .paid u ∙ ap (λ (l : List ℕ). x .text ++ l) (y .paid u) ∙ sym (append-assoc (x .text) (y .text) (owedFor f (drop c piece ++ u)));
     shown = y .shown ∙ (λ n. sets (x .shown n) (x .next n) (y .text)) ∙ sym (sets-append (x .text) (y .text) out i);
     next = omega (arith, x .next, y .next, length-append (x .text) (y .text));
+    within = y .within;
   }
 
 pub sized-on : {d e f : Desk} → Sized d e → Sized e f → Sized d f
@@ -82,6 +75,7 @@ module _ {d d′ : Desk} {piece : List ℕ} {from place printed : ℕ} {out out�
     paid = x .paid;
     shown = x .shown;
     length-of = omega (arith, x .next);
+    within = x .within;
     idle = λ z. idle;
     used = λ z. used;
     full = λ z. absurd (true≢false (sym z));
@@ -95,6 +89,7 @@ module _ {d d′ : Desk} {piece : List ℕ} {from place printed : ℕ} {out out�
     paid = x .paid;
     shown = x .shown;
     length-of = omega (arith, x .next);
+    within = x .within;
     idle = λ z. absurd (true≢false z);
     used = λ z. absurd (true≢false z);
     full = λ z. omega (arith, x .ready .fits .wide .out-room, lt-of-not-le h);
@@ -116,78 +111,6 @@ at-work-most (Nodes order count taken line) = omega arith
 at-work-most (Working turns) = omega arith
 at-work-most Stopped = omega arith
 
--- ---- the table keeps its length
-
-module _ (t ps os : List ℕ) (m : Memory) (r : Record) where
-  opened-words : (at : ℕ) (left : Left (Said Opened)) → openedBy t ps os m r at left .words ≡ t
-  opened-words at left = by-answer (left .answer) refl
-    where
-      by-answer : (a : Said Opened) → left .answer ≡ a → openedBy t ps os m r at left .words ≡ t
-      by-answer (refused n) e = rw e
-      by-answer (said is-open) e = rw e
-
-  called-words : (order : Order) (count at : ℕ) → called t ps os m r order count at .words ≡ t
-  unfolding called
-  called-words order count at = opened-words at (orderCall order t m r (take (min count 513) ps) (take (min count 513) os))
-
-  ordered-words : (order : Order) (count line : ℕ) → ordered t ps os m r order count line .words ≡ t
-  ordered-words order zero line = called-words order zero line
-  ordered-words order (suc n) line = refl
-
-  strange-words : (f : Frame) (line : ℕ) → strange t ps os m r f line .words ≡ t
-  strange-words (frame.Header a b) line = refl
-  strange-words (frame.Symbol a b) line = refl
-  strange-words (frame.Production a b c) line = refl
-  strange-words (frame.Equation a b c d) line = refl
-  strange-words (frame.Node a b) line = refl
-  strange-words (frame.Load a) line = refl
-  strange-words (frame.Replace a b) line = refl
-  strange-words frame.Dump line = refl
-  strange-words (frame.Refused refusal own) line = refl
-  strange-words frame.Over line = refl
-
-  commanded-words : (f : Frame) (line : ℕ) → commanded t ps os m r f line .words ≡ t
-  unfolding commanded
-  commanded-words (frame.Header a b) line = refl
-  commanded-words (frame.Symbol a b) line = refl
-  commanded-words (frame.Production a b c) line = refl
-  commanded-words (frame.Equation a b c d) line = refl
-  commanded-words (frame.Node a b) line = refl
-  commanded-words (frame.Load count) line = ordered-words _ count line
-  commanded-words (frame.Replace point count) line = ordered-words _ count line
-  commanded-words frame.Dump line = refl
-  commanded-words (frame.Refused refusal own) line = refl
-  commanded-words frame.Over line = refl
-
-noded-words : (t ps os : List ℕ) (m : Memory) (r : Record) (order : Order) (count taken at : ℕ) (f : Frame) (line : ℕ) → noded order count taken at f line t ps os m r .words ≡ t
-unfolding noded
-noded-words t ps os m r order count taken at (frame.Header a b) line = refl
-noded-words t ps os m r order count taken at (frame.Symbol a b) line = refl
-noded-words t ps os m r order count taken at (frame.Production a b c) line = refl
-noded-words t ps os m r order count taken at (frame.Equation a b c d) line = refl
-noded-words t ps os m r order count taken at (frame.Node p o) line = by-test (ltb (taken + 1) count)
-  where
-    by-test : (b : Bool) → cond b (waiting t (keptAt taken p ps) (keptAt taken o os) m r (Nodes order count (taken + 1) at)) (called t (keptAt taken p ps) (keptAt taken o os) m r order count at) .words ≡ t
-    by-test true = refl
-    by-test false = called-words t (keptAt taken p ps) (keptAt taken o os) m r order count at
-noded-words t ps os m r order count taken at (frame.Load a) line = refl
-noded-words t ps os m r order count taken at (frame.Replace a b) line = refl
-noded-words t ps os m r order count taken at frame.Dump line = refl
-noded-words t ps os m r order count taken at (frame.Refused refusal own) line = refl
-noded-words t ps os m r order count taken at frame.Over line = refl
-
-tabled-words : (w ps os : List ℕ) (m : Memory) (x : Taken) → tabled w ps os m x .words ≡ w
-tabled-words w ps os m (Next y) = refl
-tabled-words w ps os m (StoppedAt refusal line) = refl
-
-heard-size : (mode : Mode) (f : Frame) (line : ℕ) (t ps os : List ℕ) (m : Memory) (r : Record) → length (hearing mode f line t ps os m r .words) ≡ length t
-unfolding hearing
-heard-size (Table x) f line t ps os m r = ap length (tabled-words (wordsAfter t x f) ps os m (takenAt t x f line)) ∙ words-length t x f
-heard-size Command f line t ps os m r = ap length (commanded-words t ps os m r f line)
-heard-size (Nodes order count taken at) f line t ps os m r = ap length (noded-words t ps os m r order count taken at f line)
-heard-size (Working turns) f line t ps os m r = refl
-heard-size Stopped f line t ps os m r = refl
-
 -- ---- the desk stays wide
 
 still-wide : (d d′ : Desk) (out out′ : List ℕ) → Wide (d .words) (d .window) (d .parts) (d .partOwns) (d .memory) out → length (d′ .words) ≡ 2657 → Sized d d′ → length out′ ≡ length out
@@ -207,7 +130,7 @@ still-wide d d′ out out′ w n k e = record {
 }
 
 -- ---- from a state on: w the window, b the bytes of the begun line
-module _ (t w ps os : List ℕ) (m : Memory) (s : State) (piece : List ℕ) (from : ℕ) (out : List ℕ) (printed : ℕ) (ready : Ready (desk t w ps os m s) out) where
+module _ (t w ps os : List ℕ) (m : Memory) (s : State) (piece : List ℕ) (from : ℕ) (out : List ℕ) (printed : ℕ) (ready : Ready (desk t w ps os m s) out) (space : Spacious out printed) where
   abbrev here : Desk
   here = desk t w ps os m s
 
@@ -255,6 +178,7 @@ module _ (t w ps os : List ℕ) (m : Memory) (s : State) (piece : List ℕ) (fro
         paid = λ u. ap (λ (l : List ℕ). owed (s .mode) (tableOf here) ps os m (s .«record») (s .line) l) (gathered u);
         shown = refl;
         next = omega arith;
+        within = omega (arith, space .room);
       };
       onward = λ z. absurd (true≢false (sym z));
       idle = λ z. on;
@@ -276,8 +200,11 @@ module _ (t w ps os : List ℕ) (m : Memory) (s : State) (piece : List ℕ) (fro
         pays : Pays (s .mode) t ps os m (s .«record») (s .line) (take n w′) heard
         pays = line-pays (s .mode) t ps os m (s .«record») (s .line) (take n w′) on sound-here (ready .fits .wide .room) (ready .size) (ready .fits .wide .parts-room) (ready .fits .wide .owns-room) (g .decided yes)
 
+        bounds : Modest (length t) heard
+        bounds = heard-modest (s .mode) frameOf (s .line) t ps os m (s .«record») sound-here
+
         size-after : length t′ ≡ 2657
-        size-after = ap length (h .words-then) ∙ heard-size (s .mode) frameOf (s .line) t ps os m (s .«record») ∙ ready .size
+        size-after = ap length (h .words-then) ∙ bounds .size ∙ ready .size
 
         table-after : tableOf after ≡ heard .words
         table-after = take-all 2657 t′ (omega (arith, size-after)) ∙ h .words-then
@@ -308,6 +235,7 @@ module _ (t w ps os : List ℕ) (m : Memory) (s : State) (piece : List ℕ) (fro
                 ∙ ap (λ (l : List ℕ). heard .text ++ l) (sym (owed-after (drop place piece ++ u)));
             shown = h .shown;
             next = h .place;
+            within = omega (arith, h .place, out-after, bounds .few, space .room);
           };
           onward = λ z. omega (arith, g .moved yes, at-work-most (told .mode), out-after, h .place);
           idle = λ z. absurd (true≢false z);
@@ -342,8 +270,8 @@ module _ (t w ps os : List ℕ) (m : Memory) (s : State) (piece : List ℕ) (fro
     at-work : atWork (s .mode) ≡ 1
     at-work = rw working
 
-    pub rounds-told : Sized here then → printed + 94208 ≤ length out → Turns here piece from out printed then from out′ (told .printed) true
-    rounds-told k space = record {
+    pub rounds-told : Sized here then → Turns here piece from out printed then from out′ (told .printed) true
+    rounds-told k = record {
       fares = record {
         text = h .text;
         ready = record {
@@ -358,8 +286,9 @@ module _ (t w ps os : List ℕ) (m : Memory) (s : State) (piece : List ℕ) (fro
         paid = λ u. rw (table-whole, working) (rounds-owed (lineOf here ++ (drop from piece ++ u)) (h .text) (h .free) m′ (told .«record») (h .rests) turns (h .whole));
         shown = h .shown;
         next = h .place;
+        within = omega (arith, h .room, out-then);
       };
-      onward = λ z. omega (arith, at-work, out-then, rounds-less (h .rests) (told .printed) space (omega (arith, h .place)) (h .room));
+      onward = λ z. omega (arith, at-work, out-then, rounds-less (h .rests) (told .printed) (space .room) (omega (arith, h .place)) (h .room));
       idle = λ z. absurd (true≢false z);
       used = λ z. absurd (true≢false z);
     }
@@ -367,7 +296,7 @@ module _ (t w ps os : List ℕ) (m : Memory) (s : State) (piece : List ℕ) (fro
   -- nothing is done behind the end
   pub over : s .mode ≡ Stopped → Turns here piece from out printed here from out printed false
   over e = record {
-    fares = fares-none here piece from out printed ready;
+    fares = fares-none here piece from out printed ready (omega (arith, space .room));
     onward = λ z. absurd (true≢false (sym z));
     idle = λ z. rw e;
     used = λ z h. absurd (h e);
@@ -419,6 +348,7 @@ module _ (words t w ps os : List ℕ) (m : Memory) (s : State) (out : List ℕ) 
         paid = λ u. rw (same-table, back-table) (f .paid u);
         shown = f .shown;
         length-of = f .length-of;
+        within = f .within;
         idle = f .idle;
         used = f .used;
         full = f .full;

@@ -1,4 +1,5 @@
+pub mod Bounds
 pub mod Cutting
 pub mod Deciding
-pub mod Walking
 pub mod Faring
+pub mod Walking

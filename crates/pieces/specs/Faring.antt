@@ -33,6 +33,7 @@ pub record Fares (d : Desk) (piece : List ℕ) (from : ℕ) (out : List ℕ) (pr
   pub paid : (u : List ℕ) → owedFor d (drop from piece ++ u) ≡ text ++ owedFor d′ (drop place piece ++ u)
   pub shown : out′ ≡ sets out printed text
   pub next : printed′ ≡ printed + length text
+  pub within : printed′ ≤ length out′
 
 -- what is left to do falls with each turn: bytes of the piece, rounds, room
 abbrev pub atWork : Mode → ℕ

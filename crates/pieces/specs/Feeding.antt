@@ -97,6 +97,7 @@ pub record Feeds (d : Desk) (piece : List ℕ) (from : ℕ) (out : List ℕ) (d�
   -- the text stands at the start of the buffer
   pub shown : out′ ≡ sets out 0 text
   pub length-of : printed ≡ length text
+  pub within : printed ≤ length out′
   -- nothing is left to do: the piece is used up, or the session is over
   pub idle : more ≡ false → listens (d′ .state .mode) ≡ true
   pub used : more ≡ false → (d′ .state .mode ≡ Stopped → ⊥) → length piece ≤ place

@@ -5,6 +5,7 @@ use Rattle.pieces.specs.Faring.{Fares, Sized, toDo}
 use Rattle.pieces.specs.Feeding.{desk}
 use Rattle.engine.specs.Lent.{lent}
 use borrow.Author.Tests.{not-true, not-false}
+use native.Mathlib.Omega.{arith}
 use borrow.Author.Needs.{needs}
 use mathlib.Core.Path.{_∙_}
 use Rattle.pieces.proofs.feeding.feed_sound.Statement.{statement}
@@ -19,7 +20,7 @@ abbrev μ-loop : tie.MeasureT-loop
     toDo (desk table window parts part-owns (lent held held-owns sets before) now) piece at out printed
 
 loop-holds : tie.Need-loop-holds Inv-loop μ-loop
-loop-holds c = (fares-none _ _ _ _ _ (c .before .before .before .before .before .before .before .before .before .pre), sized-none _)
+loop-holds c = (fares-none _ _ _ _ _ (c .before .before .before .before .before .before .before .before .before .pre) (omega arith), sized-none _)
 
 turn-requires : tie.Need-turn-requires Inv-loop μ-loop
 turn-requires c κs = (c .before .before .before .before .before .before .before .before .before .before .before .loop .inv .0 .ready, record { room = c .before .before .before .before .before .before .before .before .before .before .has-room .ensures .yes (c .before .before .before .before .before .before .before .before .before .if1 .taken) })

@@ -11,7 +11,7 @@ returns : tie.Need-returns
 returns c =
     let s = c .before .before .before .before .before .before .before .before .before .before .before .before .before .before .before .before in
     let a = s .args in
-    line-waits (a .table .now) (a .window .now) (a .parts .now) (a .part-owns .now) (lent (a .held .now) (a .held-owns .now) (a .sets .now) (a .before .now)) (a .state) (a .piece .now) (a .from) (a .out .now) (a .printed) (s .pre .0) _ _ _ _ (c .before .before .before .before .before .gather .ensures) (c .before .before .before .before .window .given) (not-true (c .before .before .before .before .before .gather .result .whole) (c .before .if1 .taken)) (s .pre .2)
+    line-waits (a .table .now) (a .window .now) (a .parts .now) (a .part-owns .now) (lent (a .held .now) (a .held-owns .now) (a .sets .now) (a .before .now)) (a .state) (a .piece .now) (a .from) (a .out .now) (a .printed) (s .pre .0) (s .pre .1) _ _ _ _ (c .before .before .before .before .before .gather .ensures) (c .before .before .before .before .window .given) (not-true (c .before .before .before .before .before .gather .result .whole) (c .before .if1 .taken)) (s .pre .2)
 
 hear-line-requires : tie.Need-hear-line-requires
 hear-line-requires c κs =
@@ -19,10 +19,10 @@ hear-line-requires c κs =
     let a = s .args in
     let m = lent (a .held .now) (a .held-owns .now) (a .sets .now) (a .before .now) in
     let w = s .pre .0 .fits .wide in (
-      (s .pre .0 .size, sound-here (a .table .now) (a .window .now) (a .parts .now) (a .part-owns .now) m (a .state) (a .piece .now) (a .from) (a .out .now) (a .printed) (s .pre .0)),
+      (s .pre .0 .size, sound-here (a .table .now) (a .window .now) (a .parts .now) (a .part-owns .now) m (a .state) (a .piece .now) (a .from) (a .out .now) (a .printed) (s .pre .0) (s .pre .1)),
       (
         (w .parts-room, w .owns-room, s .pre .1),
-        reaches (a .table .now) (a .window .now) (a .parts .now) (a .part-owns .now) m (a .state) (a .piece .now) (a .from) (a .out .now) (a .printed) (s .pre .0) _ _ _ _ (c .before .before .before .before .before .before .before .before .before .before .before .before .before .gather .ensures) (c .before .before .before .before .before .before .before .before .before .before .before .before .window .given) (not-false (c .before .before .before .before .before .before .before .before .before .before .before .before .before .gather .result .whole) (c .before .before .before .before .before .before .before .before .before .if1 .left)),
+        reaches (a .table .now) (a .window .now) (a .parts .now) (a .part-owns .now) m (a .state) (a .piece .now) (a .from) (a .out .now) (a .printed) (s .pre .0) (s .pre .1) _ _ _ _ (c .before .before .before .before .before .before .before .before .before .before .before .before .before .gather .ensures) (c .before .before .before .before .before .before .before .before .before .before .before .before .window .given) (not-false (c .before .before .before .before .before .before .before .before .before .before .before .before .before .gather .result .whole) (c .before .before .before .before .before .before .before .before .before .if1 .left)),
       ),
     )
 
@@ -34,7 +34,7 @@ returns-2 c =
     let s = c .before .before .before .before .before .before .before .before .before .before .before .before .before .before .before .before .before .before .before .before .before .before .before .before .before .before .before .before .before .before .before .before .before .before .before .before .before .before .before .before .before in
     let a = s .args in
     let m = lent (a .held .now) (a .held-owns .now) (a .sets .now) (a .before .now) in
-    line-heard (a .table .now) (a .window .now) (a .parts .now) (a .part-owns .now) m (a .state) (a .piece .now) (a .from) (a .out .now) (a .printed) (s .pre .0) _ _ _ _ (c .before .before .before .before .before .before .before .before .before .before .before .before .before .before .before .before .before .before .before .before .before .before .before .before .before .before .before .before .before .before .gather .ensures) (c .before .before .before .before .before .before .before .before .before .before .before .before .before .before .before .before .before .before .before .before .before .before .before .before .before .before .before .before .before .window .given) _ _ _ _ _ _ (c .before .before .before .before .before .before .before .before .before .before .before .before .before .before .before .before .hear-line .ensures) _ (c .line-after .ensures)
+    line-heard (a .table .now) (a .window .now) (a .parts .now) (a .part-owns .now) m (a .state) (a .piece .now) (a .from) (a .out .now) (a .printed) (s .pre .0) (s .pre .1) _ _ _ _ (c .before .before .before .before .before .before .before .before .before .before .before .before .before .before .before .before .before .before .before .before .before .before .before .before .before .before .before .before .before .before .gather .ensures) (c .before .before .before .before .before .before .before .before .before .before .before .before .before .before .before .before .before .before .before .before .before .before .before .before .before .before .before .before .before .window .given) _ _ _ _ _ _ (c .before .before .before .before .before .before .before .before .before .before .before .before .before .before .before .before .hear-line .ensures) _ (c .line-after .ensures)
     (record { window = c .before .before .before .before .before .before .before .before .before .before .before .before .before .before .before .before .before .before .before .before .before .before .before .before .before .before .before .before .before .window .given; parts = c .before .before .before .before .before .before .before .before .before .before .before .before .before .before .before .parts .given; part-owns = c .before .before .before .before .before .before .before .before .before .before .before .before .before .part-owns .given; productions = c .before .before .before .before .before .before .before .before .before .before .before .held .given; owns = c .before .before .before .before .before .before .before .before .before .held-owns .given; sets-size = c .before .before .before .before .before .before .before .sets .given; before = c .before .before .before .before .before .before2 .given })
     (not-false (c .before .before .before .before .before .before .before .before .before .before .before .before .before .before .before .before .before .before .before .before .before .before .before .before .before .before .before .before .before .before .gather .result .whole) (c .before .before .before .before .before .before .before .before .before .before .before .before .before .before .before .before .before .before .before .before .before .before .before .before .before .before .if1 .left)) (s .pre .2)
 

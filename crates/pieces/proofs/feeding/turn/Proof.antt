@@ -12,21 +12,21 @@ work-requires c κs =
     let s = c .before .before .before .before .before .before .before .before .before .before .before .before .before .before .before .before .before .before .before in
     let a = s .args in
     let m = lent (a .held .now) (a .held-owns .now) (a .sets .now) (a .before .now) in
-    (rw (c .before .before .before .before .before .before .before .before .mode .given .1) at (sound-here (a .table .now) (a .window .now) (a .parts .now) (a .part-owns .now) m (a .state) (a .piece .now) (a .from) (a .out .now) (a .printed) (s .pre .0)), omega (arith, s .pre .1 .room))
+    (rw (c .before .before .before .before .before .before .before .before .mode .given .1) at (sound-here (a .table .now) (a .window .now) (a .parts .now) (a .part-owns .now) m (a .state) (a .piece .now) (a .from) (a .out .now) (a .printed) (s .pre .0) (s .pre .1)), omega (arith, s .pre .1 .room))
 
 returns : tie.Need-returns
 returns c =
     let s = c .before .before .before .before .before .before .before .before .before .before .before .before .before .before .before .before .before .before .before .before .before .before .before .before .before in
     let a = s .args in
     let m = lent (a .held .now) (a .held-owns .now) (a .sets .now) (a .before .now) in
-    rounds-told (a .table .now) (a .window .now) (a .parts .now) (a .part-owns .now) m (a .state) (a .piece .now) (a .from) (a .out .now) (a .printed) (s .pre .0) (c .before .before .before .before .before .before .before .before .before .before .before .before .before .before .mode .given .0 .0) (c .before .before .before .before .before .before .before .before .before .before .before .before .before .before .mode .given .1) _ _ _ (c .before .before .before .before .before .work .ensures)
-    (record { window = refl; parts = refl; part-owns = refl; productions = refl; owns = refl; sets-size = c .before .before .before .before .sets .given; before = refl }) (s .pre .1 .room)
+    rounds-told (a .table .now) (a .window .now) (a .parts .now) (a .part-owns .now) m (a .state) (a .piece .now) (a .from) (a .out .now) (a .printed) (s .pre .0) (s .pre .1) (c .before .before .before .before .before .before .before .before .before .before .before .before .before .before .mode .given .0 .0) (c .before .before .before .before .before .before .before .before .before .before .before .before .before .before .mode .given .1) _ _ _ (c .before .before .before .before .before .work .ensures)
+    (record { window = refl; parts = refl; part-owns = refl; productions = refl; owns = refl; sets-size = c .before .before .before .before .sets .given; before = refl })
 
 returns-2 : tie.Need-returns-2
 returns-2 c =
     let s = c .before .before .before .before .before .before .before .before .before .before .before .before in
     let a = s .args in
-    over (a .table .now) (a .window .now) (a .parts .now) (a .part-owns .now) (lent (a .held .now) (a .held-owns .now) (a .sets .now) (a .before .now)) (a .state) (a .piece .now) (a .from) (a .out .now) (a .printed) (s .pre .0) (c .before .is-stopped .ensures .yes (c .if1 .taken))
+    over (a .table .now) (a .window .now) (a .parts .now) (a .part-owns .now) (lent (a .held .now) (a .held-owns .now) (a .sets .now) (a .before .now)) (a .state) (a .piece .now) (a .from) (a .out .now) (a .printed) (s .pre .0) (s .pre .1) (c .before .is-stopped .ensures .yes (c .if1 .taken))
 
 listen-requires : tie.Need-listen-requires
 listen-requires c κs = let s = c .before .before .before .before .before .before .before .before .before .before .before .before .before .before .before .before .before .before .before .before .before in (s .pre .0, s .pre .1, not-working (s .args .state .mode) (c .before .before .before .before .before .before .before .before .before .before .before .match .keys2))

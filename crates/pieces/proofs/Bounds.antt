@@ -1,0 +1,114 @@
+-- What a line prints at the most, and that the table's words are as many behind it. Assumes nothing.
+use mathlib.Core.Path.{_≡_, refl, ap, sym, _∙_}
+use mathlib.Core.Bool.{Bool, true, false, cond}
+use mathlib.Core.Logic.{⊎-elim}
+use mathlib.Core.List.{List, []}
+use Prim.Native.Nat.{ℕ, zero, suc, _+_, _*_, _≤_, min}
+use native.Mathlib.Omega.{arith}
+use lib.Dec.{ltb}
+use lib.ListN.{length, take}
+use Rattle.refusal.specs.Numbers.{numberOf}
+use Rattle.climb.proofs.Lists.{either}
+use Rattle.update.specs.declared.Record.{Record}
+use Rattle.update.specs.Records.{isOpen}
+use Rattle.update.specs.Memories.{Memory}
+use Rattle.update.specs.Calls.{Said, refused, said, Left, Opened, is-open}
+use Rattle.frames.specs.declared.Frame.{Frame}
+use Rattle.frames.specs.declared.Frame.the-variants as frame
+use Rattle.frames.specs.declared.Taken.{Taken}
+use Rattle.frames.specs.declared.Taken.the-variants.{Next, Stopped as StoppedAt}
+use Rattle.frames.specs.Read.{wordsAfter, takenAt}
+use Rattle.frames.proofs.Readings.{words-length}
+use Rattle.engine.specs.Order.{Holding}
+use Rattle.session.specs.Session.{dumpTold}
+use Rattle.session.specs.Owed.{Sound, orderCall}
+use Rattle.session.specs.Hearing.{Heard, stopped, strange, waiting, openedBy, called, ordered, commanded, tabled, noded, keptAt, modeOf, hearing}
+use Rattle.session.specs.declared.Order.{Order}
+use Rattle.session.specs.declared.Order.the-variants.{Load, Replace}
+use Rattle.session.specs.declared.Mode.{Mode}
+use Rattle.session.specs.declared.Mode.the-variants.{Table, Command, Nodes, Working, Stopped}
+use Rattle.session.proofs.Heard.{refusal-length}
+use Rattle.session.proofs.Dumps.{dump-busy, dump-absent, dump-sets, told-most}
+
+-- n words, and no more bytes than a dump of 4,096 sets
+pub record Modest (n : ℕ) (h : Heard) : Type 0 where
+  pub size : length (h .words) ≡ n
+  pub few : length (h .text) ≤ 94208
+
+module _ (t ps os : List ℕ) (m : Memory) (r : Record) where
+  waits : (mode : Mode) → Modest (length t) (waiting t ps os m r mode)
+  waits mode = record { size = refl; few = omega arith }
+
+  stops : (n line : ℕ) → Modest (length t) (stopped t ps os m r n line)
+  stops n line = record { size = refl; few = omega (arith, refusal-length n line) }
+
+  opens : (at : ℕ) (left : Left (Said Opened)) → Modest (length t) (openedBy t ps os m r at left)
+  opens at left = by-answer (left .answer) refl
+    where
+      by-answer : (a : Said Opened) → left .answer ≡ a → Modest (length t) (openedBy t ps os m r at left)
+      by-answer (refused n) e = rw e (record { size = refl; few = omega (arith, refusal-length n at) })
+      by-answer (said is-open) e = rw e (record { size = refl; few = omega arith })
+
+  calls : (order : Order) (count at : ℕ) → Modest (length t) (called t ps os m r order count at)
+  unfolding called
+  calls order count at = opens at (orderCall order t m r (take (min count 513) ps) (take (min count 513) os))
+
+  orders : (order : Order) (count line : ℕ) → Modest (length t) (ordered t ps os m r order count line)
+  orders order zero line = calls order zero line
+  orders order (suc n) line = waits (Nodes order (suc n) 0 line)
+
+  -- "for a dump `13` instance (2), value (8)": 23 bytes for each of the slots
+  dump-few : (line : ℕ) → Holding t m r → length (dumpTold line t r m .text) ≤ 94208
+  dump-few line k =
+      ⊎-elim
+      (λ (o : isOpen (r .«open») ≡ true). rw (dump-busy t m r line k o) (omega (arith, refusal-length 10 line)))
+      (λ (o : isOpen (r .«open») ≡ false).
+      ⊎-elim
+      (λ (h : r .held ≡ true). rw (sym (dump-sets t m r line k o h)) (omega (arith, told-most t (take (r .nodes) (m .productions)) (m .sets) (8 * r .nodes) 0, k .ground .within .nodes)))
+      (λ (h : r .held ≡ false). rw (dump-absent t m r line k o h) (omega (arith, refusal-length 16 line)))
+      (either (r .held)))
+      (either (isOpen (r .«open»)))
+
+  commands : Holding t m r → (f : Frame) (line : ℕ) → Modest (length t) (commanded t ps os m r f line)
+  unfolding commanded
+  commands k (frame.Header a b) line = stops 14 line
+  commands k (frame.Symbol a b) line = stops 14 line
+  commands k (frame.Production a b c) line = stops 14 line
+  commands k (frame.Equation a b c d) line = stops 14 line
+  commands k (frame.Node a b) line = stops 14 line
+  commands k (frame.Load count) line = orders Load count line
+  commands k (frame.Replace point count) line = orders (Replace point) count line
+  commands k frame.Dump line = record { size = refl; few = dump-few line k }
+  commands k (frame.Refused refusal own) line = stops (numberOf refusal) own
+  commands k frame.Over line = stops 14 line
+
+node-comes : (b : Bool) (t ps os : List ℕ) (m : Memory) (r : Record) (mode : Mode) (order : Order) (count at : ℕ)
+    → Modest (length t) (cond b (waiting t ps os m r mode) (called t ps os m r order count at))
+node-comes true t ps os m r mode order count at = waits t ps os m r mode
+node-comes false t ps os m r mode order count at = calls t ps os m r order count at
+
+nodes : (order : Order) (count taken at : ℕ) (f : Frame) (line : ℕ) (t ps os : List ℕ) (m : Memory) (r : Record) → Modest (length t) (noded order count taken at f line t ps os m r)
+unfolding noded
+nodes order count taken at (frame.Header a b) line t ps os m r = stops t ps os m r 14 line
+nodes order count taken at (frame.Symbol a b) line t ps os m r = stops t ps os m r 14 line
+nodes order count taken at (frame.Production a b c) line t ps os m r = stops t ps os m r 14 line
+nodes order count taken at (frame.Equation a b c d) line t ps os m r = stops t ps os m r 14 line
+nodes order count taken at (frame.Node p o) line t ps os m r =
+    node-comes (ltb (taken + 1) count) t (keptAt taken p ps) (keptAt taken o os) m r (Nodes order count (taken + 1) at) order count at
+nodes order count taken at (frame.Load a) line t ps os m r = stops t ps os m r 14 line
+nodes order count taken at (frame.Replace a b) line t ps os m r = stops t ps os m r 14 line
+nodes order count taken at frame.Dump line t ps os m r = stops t ps os m r 14 line
+nodes order count taken at (frame.Refused refusal own) line t ps os m r = stops t ps os m r (numberOf refusal) own
+nodes order count taken at frame.Over line t ps os m r = stops t ps os m r 14 line
+
+tables : (n : ℕ) (w ps os : List ℕ) (m : Memory) (x : Taken) → length w ≡ n → Modest n (tabled w ps os m x)
+tables n w ps os m (Next y) e = record { size = e; few = omega arith }
+tables n w ps os m (StoppedAt refusal line) e = record { size = e; few = omega (arith, refusal-length (numberOf refusal) line) }
+
+pub heard-modest : (mode : Mode) (f : Frame) (line : ℕ) (t ps os : List ℕ) (m : Memory) (r : Record) → Sound mode t m r → Modest (length t) (hearing mode f line t ps os m r)
+unfolding hearing
+heard-modest (Table x) f line t ps os m r k = tables (length t) (wordsAfter t x f) ps os m (takenAt t x f line) (words-length t x f)
+heard-modest Command f line t ps os m r k = commands t ps os m r k f line
+heard-modest (Nodes order count taken at) f line t ps os m r k = nodes order count taken at f line t ps os m r
+heard-modest (Working turns) f line t ps os m r k = waits t ps os m r (Working turns)
+heard-modest Stopped f line t ps os m r k = waits t ps os m r Stopped
