@@ -2,9 +2,9 @@
 use crate::Frame;
 use crate::ReadTree;
 use crate::next_at;
+use checking::judge_table;
 use refusal::Refusal;
 use refusal::Verdict;
-use table::judge_table;
 use tree::judge_held;
 ghost use mathlib.Core.Path.{_≡_};
 ghost use Prim.Native.Nat.{_≤_};

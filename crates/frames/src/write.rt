@@ -2,12 +2,12 @@
 use crate::Expected;
 use crate::Written;
 use crate::walk::next_of;
+use checking::judge_table;
 use refusal::Refusal;
 use refusal::Verdict;
 use table::child_count;
 use table::constant_at;
 use table::head_at;
-use table::judge_table;
 ghost use mathlib.Core.Path.{_≡_};
 ghost use mathlib.Core.Bool.{_&&_};
 ghost use Prim.Native.Nat.{_+_, _*_, _<_, _≤_};

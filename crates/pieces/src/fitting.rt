@@ -1,5 +1,9 @@
 // Whether the memory lent can be a session's: a public call takes any.
 use crate::State;
+use checking::judge_equation;
+use checking::judge_header;
+use checking::judge_production;
+use checking::judge_symbol;
 use frames::Expected;
 use frames::next_of;
 use judging::judge_ground;
@@ -8,10 +12,6 @@ use judging::judge_step;
 use refusal::Refusal;
 use refusal::Verdict;
 use session::Mode;
-use table::judge_equation;
-use table::judge_header;
-use table::judge_production;
-use table::judge_symbol;
 use update::Record;
 ghost use mathlib.Core.Path.{_≡_};
 ghost use mathlib.Core.Bool.{true, not};
