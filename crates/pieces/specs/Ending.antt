@@ -1,7 +1,7 @@
 -- What is waited for, as the end of the input asks for it. Assumes nothing.
 use mathlib.Core.Bool.{Bool, true, false}
-use Rattle.session.specs.declared.Mode.{Mode}
-use Rattle.session.specs.declared.Mode.the-variants.{Table, Command, Nodes, Working, Stopped}
+use Rattle.hearing.specs.declared.Mode.{Mode}
+use Rattle.hearing.specs.declared.Mode.the-variants.{Table, Command, Nodes, Working, Stopped}
 
 -- text that ends between two lines ends "inside a table or command"
 abbrev pub inside : Mode → Bool

@@ -17,10 +17,10 @@ use Rattle.update.specs.Within.{Roomy}
 use Rattle.frames.specs.declared.Expected.the-variants.{AtHeader}
 use Rattle.frames.specs.declared.Written.{Written}
 use Rattle.frames.specs.declared.Written.the-variants.{Length, Refused as NotWritten}
-use Rattle.session.specs.Owed.{owed, Sound, Begun}
-use Rattle.session.specs.Laws.{listens, endText}
-use Rattle.session.specs.declared.Mode.{Mode}
-use Rattle.session.specs.declared.Mode.the-variants.{Table, Stopped}
+use Rattle.hearing.specs.Owed.{owed, Sound, Begun}
+use Rattle.hearing.specs.Laws.{listens, endText}
+use Rattle.hearing.specs.declared.Mode.{Mode}
+use Rattle.hearing.specs.declared.Mode.the-variants.{Table, Stopped}
 use Rattle.pieces.specs.declared.State.{State}
 use Rattle.pieces.specs.declared.Fed.{Fed}
 use Rattle.pieces.specs.declared.Fed.the-variants.{Taken, Refused}

@@ -6,12 +6,12 @@ use checking::judge_production;
 use checking::judge_symbol;
 use frames::Expected;
 use frames::next_of;
+use hearing::Mode;
 use judging::judge_ground;
 use judging::judge_holding;
 use judging::judge_step;
 use refusal::Refusal;
 use refusal::Verdict;
-use session::Mode;
 use update::Record;
 ghost use mathlib.Core.Path.{_≡_};
 ghost use mathlib.Core.Bool.{true, not};
@@ -22,7 +22,7 @@ ghost use Rattle.frames.specs.Walk.{entryOf, isOn};
 ghost use Rattle.frames.specs.Read.{Awaits, Sofar};
 ghost use Rattle.engine.specs.Lent.{lent};
 ghost use Rattle.engine.specs.Order.{Holding};
-ghost use Rattle.session.specs.Owed.{Begun};
+ghost use Rattle.hearing.specs.Owed.{Begun};
 ghost use Rattle.pieces.specs.Feeding.{Wide, Settled, Tests, Decides};
 
 // A buffer is shorter than a line, a command's nodes, a table, the engine or what a line can print asks for.

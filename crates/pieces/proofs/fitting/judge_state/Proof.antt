@@ -16,10 +16,10 @@ use Rattle.update.specs.Refusals.{stepRefusal}
 use Rattle.engine.specs.Lent.{lent}
 use Rattle.engine.specs.Order.{Going}
 use Rattle.engine.proofs.Orders.{going, step-none}
-use Rattle.session.specs.Owed.{Sound, Begun}
-use Rattle.session.specs.declared.Order.{Order}
-use Rattle.session.specs.declared.Mode.{Mode}
-use Rattle.session.specs.declared.Mode.the-variants.{Table, Command, Nodes, Working, Stopped}
+use Rattle.hearing.specs.Owed.{Sound, Begun}
+use Rattle.hearing.specs.declared.Order.{Order}
+use Rattle.hearing.specs.declared.Mode.{Mode}
+use Rattle.hearing.specs.declared.Mode.the-variants.{Table, Command, Nodes, Working, Stopped}
 use Rattle.pieces.specs.Feeding.{Settled, Decides}
 use Rattle.pieces.specs.declared.State.{State}
 use Rattle.pieces.proofs.Deciding.{decides-zero, decides-as, decides-yes, decides-no, tested-not}
