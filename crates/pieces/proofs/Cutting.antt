@@ -11,7 +11,9 @@ use Rattle.hearing.specs.Laws.{listens, endText}
 use Rattle.hearing.specs.declared.Mode.{Mode}
 use Rattle.hearing.specs.declared.Mode.the-variants.{Table, Command, Nodes, Working, Stopped}
 use Rattle.hearing.proofs.Ending.{end-pays, all-owed}
-use Rattle.pieces.specs.Feeding.{Desk, Fits, Feeds, tableOf, lineOf, owedFor, lastText}
+use Rattle.desk.specs.Desk.{Desk, Fits, tableOf, lineOf, owedFor}
+use Rattle.desk.specs.Ending.{lastText}
+use Rattle.pieces.specs.Feeding.{Feeds}
 use Rattle.pieces.specs.Laws.{Starts, Piece, last, more, Pieces, ends, next, joined, HoweverCut}
 
 -- a desk between two pieces

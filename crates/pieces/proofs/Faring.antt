@@ -25,9 +25,10 @@ use Rattle.hearing.specs.declared.Mode.the-variants.{Table, Command, Nodes, Wor
 use Rattle.hearing.specs.declared.Told.{Told}
 use Rattle.hearing.proofs.Mode as M
 use Rattle.hearing.proofs.Owing.{line-pays}
-use Rattle.pieces.specs.declared.State.{State}
-use Rattle.pieces.specs.Feeding.{Desk, desk, tableOf, lineOf, owedFor, Wide, Fits, Settled, Feeds}
-use Rattle.pieces.specs.Gathering.{Gathers}
+use Rattle.desk.specs.declared.State.{State}
+use Rattle.desk.specs.Desk.{Desk, desk, tableOf, lineOf, owedFor, Wide, Fits, Settled}
+use Rattle.pieces.specs.Feeding.{Feeds}
+use Rattle.desk.specs.Gathering.{Gathers}
 use Rattle.pieces.proofs.Bounds.{Modest, heard-modest}
 use Rattle.pieces.specs.Faring.{Ready, Sized, Fares, atWork, toDo, Turns}
 

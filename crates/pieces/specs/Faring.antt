@@ -9,7 +9,7 @@ use Rattle.update.specs.Memories.{Memory}
 use Rattle.hearing.specs.Laws.{listens}
 use Rattle.hearing.specs.declared.Mode.{Mode}
 use Rattle.hearing.specs.declared.Mode.the-variants.{Table, Command, Nodes, Working, Stopped}
-use Rattle.pieces.specs.Feeding.{Desk, Fits, owedFor}
+use Rattle.desk.specs.Desk.{Desk, Fits, owedFor}
 
 -- a desk whose words are a table's and no more
 pub record Ready (d : Desk) (out : List ℕ) : Type 0 where

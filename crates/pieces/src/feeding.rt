@@ -1,20 +1,20 @@
 // Pieces of text in, printed bytes out.
 use crate::Fed;
-use crate::State;
-use crate::copying::copy_in;
-use crate::copying::copy_out;
-use crate::ending::is_stopped;
-use crate::fitting::is_narrow;
-use crate::fitting::judge_state;
-use crate::gathering::gather;
-use crate::gathering::line_after;
+use desk::State;
+use desk::copy_in;
+use desk::copy_out;
+use desk::gather;
+use desk::is_narrow;
+use desk::is_stopped;
+use desk::judge_state;
+use desk::line_after;
 use frames::frame_at;
+use refusal::Refusal;
+use refusal::Verdict;
 use hearing::Mode;
 use hearing::Told;
 use hearing::hear;
 use hearing::tell_rounds;
-use refusal::Refusal;
-use refusal::Verdict;
 use update::Record;
 ghost use mathlib.Core.Path.{_≡_};
 ghost use mathlib.Core.Bool.{true};
@@ -27,7 +27,8 @@ ghost use Rattle.hearing.specs.Owed.{Sound};
 ghost use Rattle.hearing.specs.Hearing.{hearing, Hears, Spacious};
 ghost use Rattle.hearing.specs.Telling.{RoundsTold};
 ghost use Rattle.hearing.specs.Laws.{listens};
-ghost use Rattle.pieces.specs.Feeding.{desk, Tests, Feeds, FeedSays};
+ghost use Rattle.desk.specs.Desk.{desk, Tests};
+ghost use Rattle.pieces.specs.Feeding.{Feeds, FeedSays};
 ghost use Rattle.pieces.specs.Faring.{Ready, Turns};
 
 // What a turn leads to: how far the piece is taken, where the next byte is printed, and whether there is more to do.

@@ -1,0 +1,3 @@
+pub mod Desk
+pub mod Ending
+pub mod Gathering
