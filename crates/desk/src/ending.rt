@@ -2,8 +2,8 @@
 use crate::State;
 use frames::Written;
 use frames::put_refusal;
-use refusal::Refusal;
 use hearing::Mode;
+use refusal::Refusal;
 ghost use mathlib.Core.Path.{_≡_};
 ghost use Rattle.hearing.specs.declared.Mode.the-variants.{Stopped};
 ghost use Rattle.desk.specs.Desk.{Tests};

@@ -1,17 +1,17 @@
 // Whether the memory lent can be a session's: a public call takes any.
 use crate::State;
+use checking::judge_equation;
+use checking::judge_header;
+use checking::judge_production;
+use checking::judge_symbol;
 use frames::Expected;
 use frames::next_of;
+use hearing::Mode;
 use judging::judge_ground;
 use judging::judge_holding;
 use judging::judge_step;
 use refusal::Refusal;
 use refusal::Verdict;
-use hearing::Mode;
-use checking::judge_equation;
-use checking::judge_header;
-use checking::judge_production;
-use checking::judge_symbol;
 use update::Record;
 ghost use mathlib.Core.Path.{_≡_};
 ghost use mathlib.Core.Bool.{true, not};
