@@ -19,7 +19,7 @@ ghost use Prim.Native.Nat.{_≤_};
 ghost use lib.ListN.{length, take};
 ghost use Rattle.table.specs.Judge.{refusalAt};
 ghost use Rattle.frames.specs.Walk.{entryOf, isOn};
-ghost use Rattle.frames.specs.Read.{Awaits, Sofar};
+ghost use Rattle.texts.specs.Read.{Awaits, Sofar};
 ghost use Rattle.engine.specs.Lent.{lent};
 ghost use Rattle.engine.specs.Order.{Holding};
 ghost use Rattle.hearing.specs.Owed.{Begun};

@@ -15,7 +15,7 @@ use Rattle.frames.specs.declared.Expected.{Expected}
 use Rattle.frames.specs.declared.Expected.the-variants.{AtHeader, AtSymbol, AtProduction, AtEquation, Ended}
 use Rattle.frames.specs.declared.Frame.{Frame}
 use Rattle.frames.specs.declared.Frame.the-variants.{Header, Symbol, Production, Equation, Node, Load, Replace, Dump, Refused, Over}
-use Rattle.frames.specs.Read.{wordsAfter, takenAt}
+use Rattle.texts.specs.Read.{wordsAfter, takenAt}
 use Rattle.frames.proofs.Expected as X
 use Rattle.frames.proofs.Frame as F
 use Rattle.session.specs.Session.{dumpTold}

@@ -14,7 +14,7 @@ use Rattle.lines.proofs.Values.{lt-or-ge}
 use Rattle.update.specs.declared.Record.{Record}
 use Rattle.update.specs.Memories.{Memory}
 use Rattle.update.specs.Calls.{Said, Left, Opened}
-use Rattle.frames.specs.Planting.{Nodes, good, bad, before}
+use Rattle.planting.specs.Planting.{Nodes, good, bad, before}
 use Rattle.session.specs.Session.{Told, withNodes}
 use Rattle.hearing.specs.Owed.{orderCall, heard, behind}
 use Rattle.hearing.specs.Hearing.{keptAt}

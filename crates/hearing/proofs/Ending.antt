@@ -11,9 +11,9 @@ use Rattle.refusal.specs.declared.Refusal.the-variants as why
 use Rattle.update.specs.declared.Record.{Record}
 use Rattle.update.specs.Memories.{Memory}
 use Rattle.frames.specs.Frames.{frameAt}
-use Rattle.frames.specs.Reading as table
-use Rattle.frames.specs.Reading.{Reading, readOn, readingAt}
-use Rattle.frames.specs.Planting.{nodesAt}
+use Rattle.texts.specs.Reading as table
+use Rattle.texts.specs.Reading.{Reading, readOn, readingAt}
+use Rattle.planting.specs.Planting.{nodesAt}
 use Rattle.frames.specs.declared.Frame.the-variants as frame
 use Rattle.frames.specs.declared.Expected.the-variants.{AtHeader}
 use Rattle.session.specs.Session.{commandsFrom, session, afterTable, ownMemory}

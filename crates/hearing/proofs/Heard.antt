@@ -15,8 +15,8 @@ use Rattle.update.specs.declared.Record.{Record}
 use Rattle.update.specs.Records.{emptyRecord}
 use Rattle.update.specs.Memories.{Memory}
 use Rattle.frames.specs.declared.Expected.{Expected}
-use Rattle.frames.specs.declared.Taken.{Taken}
-use Rattle.frames.specs.declared.Taken.the-variants.{Next, Stopped as StoppedAt}
+use Rattle.texts.specs.declared.Taken.{Taken}
+use Rattle.texts.specs.declared.Taken.the-variants.{Next, Stopped as StoppedAt}
 use Rattle.engine.specs.declared.Begun.{Begun}
 use Rattle.engine.specs.Lent.{begun}
 use Rattle.hearing.specs.Owed.{orderCall}

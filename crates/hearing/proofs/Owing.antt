@@ -16,18 +16,18 @@ use Rattle.update.specs.Calls.{Said, refused, said, Left, Opened, is-open}
 use Rattle.engine.specs.Order.{Holding}
 use Rattle.frames.specs.Frames.{frameAt, lineAfter}
 use Rattle.frames.specs.Walk.{isOn}
-use Rattle.frames.specs.Read.{Sofar, typeOf, takenAt, wordsAfter}
-use Rattle.frames.specs.Reading.{after, readOn}
-use Rattle.frames.specs.Planting.{Nodes, before, nodeThen, nodesAt}
+use Rattle.texts.specs.Read.{Sofar, typeOf, takenAt, wordsAfter}
+use Rattle.texts.specs.Reading.{after, readOn}
+use Rattle.planting.specs.Planting.{Nodes, before, nodeThen, nodesAt}
+use Rattle.texts.specs.declared.Taken.{Taken}
+use Rattle.texts.specs.declared.Taken.the-variants.{Next, Stopped as StoppedAt}
+use Rattle.texts.proofs.Sofar.{goes}
+use Rattle.planting.proofs.Trees.{nodes-forth}
 use Rattle.frames.specs.Out.{refusalText}
 use Rattle.frames.specs.declared.Frame.{Frame}
 use Rattle.frames.specs.declared.Frame.the-variants as frame
 use Rattle.frames.specs.declared.Expected.{Expected}
 use Rattle.frames.specs.declared.Expected.the-variants.{AtHeader, AtSymbol, AtProduction, AtEquation, Ended}
-use Rattle.frames.specs.declared.Taken.{Taken}
-use Rattle.frames.specs.declared.Taken.the-variants.{Next, Stopped as StoppedAt}
-use Rattle.frames.proofs.Sofar.{goes}
-use Rattle.frames.proofs.Trees.{nodes-forth}
 use Rattle.session.specs.Session.{Told, andOn, withNodes, openedThen, dumpTold, command, commandsFrom}
 use Rattle.hearing.specs.Owed.{commands, onward, orderCall, heard, behind, tableThen, owed, Sound}
 use Rattle.hearing.specs.Hearing.{Heard, stopped, waiting, openedBy, called, ordered, commanded, modeOf, tabled, keptAt, noded, hearing}

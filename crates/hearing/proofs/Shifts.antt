@@ -18,20 +18,20 @@ use Rattle.update.specs.Memories.{Memory}
 use Rattle.update.specs.Calls.{loadCall, replaceCall}
 use Rattle.frames.specs.Frames.{frameAt, stepOf}
 use Rattle.frames.specs.Walk.{isOn}
-use Rattle.frames.specs.Read.{typeOf, typeAt, takenAt, wordsAfter}
-use Rattle.frames.specs.Reading as table
-use Rattle.frames.specs.Reading.{Reading, after, readOn}
-use Rattle.frames.specs.Planting.{Nodes, good, bad, before, nodeThen, nodesAt}
+use Rattle.texts.specs.Read.{typeOf, typeAt, takenAt, wordsAfter}
+use Rattle.texts.specs.Reading as table
+use Rattle.texts.specs.Reading.{Reading, after, readOn}
+use Rattle.planting.specs.Planting.{Nodes, good, bad, before, nodeThen, nodesAt}
+use Rattle.texts.specs.declared.Taken.{Taken}
+use Rattle.texts.specs.declared.Taken.the-variants.{Next, Stopped}
+use Rattle.planting.proofs.Trees.{nodes-forth}
+use Rattle.texts.proofs.Sofar.{led}
 use Rattle.frames.specs.declared.Frame.{Frame}
 use Rattle.frames.specs.declared.Frame.the-variants.{Header, Symbol, Production, Equation, Node, Load, Replace, Dump, Refused, Over}
 use Rattle.frames.specs.declared.Expected.{Expected}
 use Rattle.frames.specs.declared.Expected.the-variants.{AtHeader, AtSymbol, AtProduction, AtEquation, Ended}
-use Rattle.frames.specs.declared.Taken.{Taken}
-use Rattle.frames.specs.declared.Taken.the-variants.{Next, Stopped}
 use Rattle.frames.specs.declared.Step.{Step}
 use Rattle.frames.proofs.Back.{frame-behind}
-use Rattle.frames.proofs.Trees.{nodes-forth}
-use Rattle.frames.proofs.Sofar.{led}
 use Rattle.session.specs.Session.{Told, withNodes, openedThen, dumpTold, command, commandsFrom}
 use Rattle.hearing.specs.Owed.{tableThen}
 use Rattle.hearing.proofs.Windows.{none-left}

@@ -19,7 +19,7 @@ use Rattle.lines.proofs.Window.{Alike, num-alike, line-ahead}
 use Rattle.lines.proofs.Rows as rows
 use Rattle.lines.proofs.Rows.{line-says, end-says}
 use Rattle.frames.specs.Frames.{wrongLength, sized, childAt, dumpOf, headerOf, symbolOf, productionOf, equationOf, nodeOf, loadOf, replaceOf, kindOf, frameOf, stepOf, frameAt, lineAfter}
-use Rattle.frames.specs.Read.{typeOf}
+use Rattle.texts.specs.Read.{typeOf}
 use Rattle.frames.specs.declared.Frame.{Frame}
 use Rattle.frames.specs.declared.Frame.the-variants.{Header, Symbol, Production, Equation, Node, Load, Replace, Dump, Refused, Over}
 use Rattle.hearing.specs.Owed.{Begun, Whole}

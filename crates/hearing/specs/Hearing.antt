@@ -13,11 +13,11 @@ use Rattle.update.specs.Memories.{Memory}
 use Rattle.update.specs.Calls.{Said, refused, said, Left, Opened, is-open}
 use Rattle.frames.specs.declared.Expected.{Expected}
 use Rattle.frames.specs.declared.Expected.the-variants.{AtHeader, AtSymbol, AtProduction, AtEquation, Ended}
-use Rattle.frames.specs.declared.Taken.{Taken}
-use Rattle.frames.specs.declared.Taken.the-variants.{Next, Stopped as StoppedAt}
+use Rattle.texts.specs.declared.Taken.{Taken}
+use Rattle.texts.specs.declared.Taken.the-variants.{Next, Stopped as StoppedAt}
 use Rattle.frames.specs.declared.Frame.{Frame}
 use Rattle.frames.specs.declared.Frame.the-variants as frame
-use Rattle.frames.specs.Read.{wordsAfter, takenAt}
+use Rattle.texts.specs.Read.{wordsAfter, takenAt}
 use Rattle.frames.specs.Out.{refusalText}
 use Rattle.session.specs.Session.{dumpTold}
 use Rattle.hearing.specs.Owed.{orderCall}

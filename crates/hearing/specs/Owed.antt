@@ -11,10 +11,10 @@ use Rattle.update.specs.Records.{emptyRecord}
 use Rattle.update.specs.Memories.{Memory}
 use Rattle.update.specs.Calls.{Said, Left, Opened, loadCall, replaceCall}
 use Rattle.frames.specs.Walk.{isOn}
-use Rattle.frames.specs.Read.{Sofar}
-use Rattle.frames.specs.Reading as table
-use Rattle.frames.specs.Reading.{Reading, readOn}
-use Rattle.frames.specs.Planting.{Nodes, good, bad, nodesAt}
+use Rattle.texts.specs.Read.{Sofar}
+use Rattle.texts.specs.Reading as table
+use Rattle.texts.specs.Reading.{Reading, readOn}
+use Rattle.planting.specs.Planting.{Nodes, good, bad, nodesAt}
 use Rattle.frames.specs.Out.{refusalText}
 use Rattle.engine.specs.Order.{Holding, Going}
 use Rattle.session.specs.Session.{openedThen, stepsTold, andOn, withNodes, commandsFrom}

@@ -7,9 +7,9 @@ use native.Mathlib.Omega.{arith}
 use borrow.Author.Needs.{needs}
 use Rattle.refusal.specs.declared.Verdict.the-variants.{Sound}
 use Rattle.frames.specs.Walk.{isOn}
-use Rattle.frames.specs.Read.{Sofar}
+use Rattle.texts.specs.Read.{Sofar}
+use Rattle.texts.proofs.Sofar.{awaits-so}
 use Rattle.frames.specs.declared.Expected.{Expected}
-use Rattle.frames.proofs.Sofar.{awaits-so}
 use Rattle.desk.specs.Desk.{Decides}
 use Rattle.desk.proofs.Deciding.{decides-yes, decides-no, refused-not, tested-not}
 use Rattle.desk.proofs.Walking.{OnTheWay, begins, passes, goes-on, none-left, ready-so}
