@@ -1,9 +1,11 @@
 -- Step by step what is left of an update's steps. Assumes nothing.
 use mathlib.Core.Path.{_≡_, refl, sym, ap, _∙_, subst}
-use mathlib.Core.Bool.{Bool}
+use mathlib.Core.Bool.{Bool, true, false, cond}
 use mathlib.Core.List.{List, [], _∷_, _++_, append-assoc, append-nil}
 use Prim.Native.Nat.{ℕ, zero, suc, _+_, _-_, _≤_, _<_}
 use native.Mathlib.Omega.{arith}
+use borrow.Author.Tests.{lt-ltb, le-ltb}
+use lib.Dec.{ltb}
 use lib.ListN.{length, take, length-append}
 use lib.Seq.{sets}
 use types.Run.{OneOf, miss}
@@ -28,7 +30,7 @@ use Rattle.engine.specs.Prepared.{Holds}
 use Rattle.engine.proofs.Stepping.{step-carried}
 use Rattle.session.specs.Session as session
 use Rattle.session.specs.Session.{stepThen, stepsTold, before, outcomeText}
-use Rattle.hearing.specs.Telling.{AnswerPut, Rests, ended, full, TurnsTold}
+use Rattle.hearing.specs.Telling.{AnswerPut, Worked, behindText, stepWithin, stepsWithin, Rests, ended, full, TurnsTold}
 use Rattle.hearing.specs.declared.Mode.the-variants.{Command, Working}
 use Rattle.hearing.specs.declared.Told.{Told}
 use Rattle.hearing.proofs.Stepped.{isDone, step-keeps}
@@ -67,12 +69,34 @@ pub steps-next : (k : ℕ) (t : List ℕ) (r : Record) (m : Memory) (a : Answer)
 unfolding stepsTold
 steps-next k t r m a d m′ e = ap (λ (l : Left (Said Outcome)). stepThen (l .answer) (l .next) (l .memory) (stepsTold k t)) (sym e)
 
+pub within-next : (k room : ℕ) (t : List ℕ) (r : Record) (m : Memory) (a : Answer) (d : Record) (m′ : Memory) → stepped a d m′ ≡ stepCall t m r → 19 ≤ room
+    → stepsWithin (suc k) room t r m ≡ stepWithin (answerSays a) d m′ (stepsWithin k (room - 19) t)
+unfolding stepsWithin
+within-next k room t r m a d m′ e h =
+    rw (le-ltb room 19 h) (ap (λ (l : Left (Said Outcome)). stepWithin (l .answer) (l .next) (l .memory) (stepsWithin k (room - 19) t)) (sym e))
+
 pub before-before : (x y : List ℕ) (told : session.Told) → before x (before y told) ≡ before (x ++ y) told
 before-before x y told j = record { text = sym (append-assoc x y (told .text)) j; next = told .next; memory = told .memory }
 
 pub before-last : (x y : List ℕ) (r : Record) (m : Memory)
     → _≡_ {A = session.Told} (before x (record { text = y; next = r; memory = m })) (before (x ++ y) (record { text = []; next = r; memory = m }))
 before-last x y r m j = record { text = sym (append-nil (x ++ y)) j; next = r; memory = m }
+
+behind-behind : (x y : List ℕ) (w : Worked) → behindText x (behindText y w) ≡ behindText (x ++ y) w
+behind-behind x y w j = record { text = sym (append-assoc x y (w .text)) j; mode = w .mode; next = w .next; memory = w .memory }
+
+-- the steps stop: a line has no room, or no turns are left
+within-full : (still room : ℕ) (t : List ℕ) (r : Record) (m : Memory) (text : List ℕ) → 0 < still → room < 19
+    → behindText text (stepsWithin still room t r m) ≡ record { text = text; mode = Working still; next = r; memory = m }
+unfolding stepsWithin
+within-full zero room t r m text l h = absurd (omega arith)
+within-full (suc k) room t r m text l h = rw (lt-ltb room 19 h) (λ j. record { text = append-nil text j; mode = Working (suc k); next = r; memory = m })
+
+within-over : (still room : ℕ) (t : List ℕ) (r : Record) (m : Memory) (text : List ℕ) → still ≤ 0
+    → behindText text (stepsWithin still room t r m) ≡ record { text = text; mode = Command; next = r; memory = m }
+unfolding stepsWithin
+within-over zero room t r m text l = λ j. record { text = append-nil text j; mode = Command; next = r; memory = m }
+within-over (suc k) room t r m text l = absurd (omega arith)
 
 pub full-rests : {t : List ℕ} {m : Memory} {r : Record} {free : ℕ} (still : ℕ) → 0 < still → Going t m r → free < 19 → Rests t m r free (Working still) (stepsTold still t r m)
 full-rests zero l g h = absurd (omega arith)
@@ -90,6 +114,7 @@ module _ (t owns : List ℕ) (n : ℕ) (a b left rule label members ends : List 
   pub record Come (held heldOwns : List ℕ) (still place : ℕ) (work : Record) (s out : List ℕ) : Type 0 where
     pub text : List ℕ
     pub whole : stepsTold turns t r₀ (lent held heldOwns s₀ olds) ≡ before text (stepsTold still t work (lent held heldOwns s olds))
+    pub within : stepsWithin turns (length out₀ - printed) t r₀ (lent held heldOwns s₀ olds) ≡ behindText text (stepsWithin still (length out₀ - place) t work (lent held heldOwns s olds))
     pub shown : out ≡ sets out₀ printed text
     pub behind : place ≡ printed + length text
     pub going : Going t (lent held heldOwns s olds) work
@@ -104,7 +129,7 @@ module _ (t owns : List ℕ) (n : ℕ) (a b left rule label members ends : List 
   Tells told s out = TurnsTold t owns n a b left rule label members ends count olds s₀ r₀ turns printed out₀ told s out
 
   pub turn-first : Turn turns printed r₀ s₀ out₀
-  turn-first = record { come = λ held heldOwns g o h. record { text = []; whole = refl; shown = refl; behind = omega arith; going = g; nodes = refl } }
+  turn-first = record { come = λ held heldOwns g o h. record { text = []; whole = refl; within = refl; shown = refl; behind = omega arith; going = g; nodes = refl } }
 
   abbrev madeFrom : Record → List ℕ → Made
   madeFrom r s = stepOf (wired n t owns a b left rule) (circlesIn n a b) r olds s
@@ -135,6 +160,7 @@ module _ (t owns : List ℕ) (n : ℕ) (a b left rule label members ends : List 
             shown = c .shown;
             place = c .behind;
             room = omega arith;
+            exactly = c .within ∙ within-full still (length out₀ - place) t r (lent held heldOwns s olds) (c .text) some less;
             rests = full-rests still some (c .going) less;
           };
     }
@@ -153,6 +179,7 @@ module _ (t owns : List ℕ) (n : ℕ) (a b left rule label members ends : List 
             shown = c .shown;
             place = c .behind;
             room = omega arith;
+            exactly = c .within ∙ within-over still (length out₀ - place) t r (lent held heldOwns s olds) (c .text) none;
             rests = none-rests still none (c .going);
           };
     }
@@ -168,14 +195,25 @@ module _ (t owns : List ℕ) (n : ℕ) (a b left rule label members ends : List 
           ∙ ap (λ (k : ℕ). before (c .text) (stepsTold k t r (lent held heldOwns s olds))) q
           ∙ ap (before (c .text)) (steps-next (still - 1) t r (lent held heldOwns s olds) answer d (lent held heldOwns s′ olds) (carried held heldOwns r s (c .going) (c .nodes) o h answer d s′ u))
 
+      on-within : (held heldOwns : List ℕ) (c : Come held heldOwns still place r s out) → owns ≡ take (r₀ .nodes) heldOwns
+          → Holds t (take (r₀ .nodes) held) owns n a b left rule label members ends count → place + 19 ≤ length out₀ → place′ ≡ place + 19 → (answer : Answer) → StepSays (madeFrom r s) answer d s′
+          → stepsWithin turns (length out₀ - printed) t r₀ (lent held heldOwns s₀ olds) ≡ behindText (c .text) (stepWithin (answerSays answer) d (lent held heldOwns s′ olds) (stepsWithin (still - 1) (length out₀ - place′) t))
+      on-within held heldOwns c o h fit e answer u =
+          let q : still ≡ suc (still - 1) = omega arith in
+          let z : length out₀ - place - 19 ≡ length out₀ - place′ = omega arith in
+          c .within
+          ∙ ap (λ (k : ℕ). behindText (c .text) (stepsWithin k (length out₀ - place) t r (lent held heldOwns s olds))) q
+          ∙ ap (behindText (c .text)) (within-next (still - 1) (length out₀ - place) t r (lent held heldOwns s olds) answer d (lent held heldOwns s′ olds) (carried held heldOwns r s (c .going) (c .nodes) o h answer d s′ u) (omega arith))
+          ∙ ap (λ (k : ℕ). behindText (c .text) (stepWithin (answerSays answer) d (lent held heldOwns s′ olds) (stepsWithin (still - 1) k t))) z
+
       on-shown : (text line : List ℕ) → out ≡ sets out₀ printed text → place ≡ printed + length text → out′ ≡ sets out place line → out′ ≡ sets out₀ printed (text ++ line)
       on-shown text line e p q = q ∙ (λ j. sets (e j) (p j) line) ∙ sym (sets-append text line out₀ printed)
 
       on-place : (text line : List ℕ) → place ≡ printed + length text → place′ ≡ place + 19 → length line ≡ 19 → place′ ≡ printed + length (text ++ line)
       on-place text line p q l = omega (arith, length-append text line)
 
-      turn-round : (x y z : ℕ) (k : Bool) → StepSays (madeFrom r s) (Round x y z k) d s′ → AnswerPut (said (round x y z k)) place out place′ out′ → Turn (still - 1) place′ d s′ out′
-      turn-round x y z k u put = record {
+      turn-round : (x y z : ℕ) (k : Bool) → place′ ≤ length out₀ → StepSays (madeFrom r s) (Round x y z k) d s′ → AnswerPut (said (round x y z k)) place out place′ out′ → Turn (still - 1) place′ d s′ out′
+      turn-round x y z k fit u put = record {
         come = λ held heldOwns g o h.
             let c = v .come held heldOwns g o h in
             let e : round x y z k ≡ madeFrom r s .outcome = cc (u .answer) in
@@ -184,6 +222,7 @@ module _ (t owns : List ℕ) (n : ℕ) (a b left rule label members ends : List 
             record {
               text = c .text ++ outcomeText (round x y z k);
               whole = on-whole held heldOwns c o h (Round x y z k) u ∙ before-before (c .text) (outcomeText (round x y z k)) (stepsTold (still - 1) t d (lent held heldOwns s′ olds));
+              within = on-within held heldOwns c o h (omega (arith, put .place)) (put .place) (Round x y z k) u ∙ behind-behind (c .text) (outcomeText (round x y z k)) (stepsWithin (still - 1) (length out₀ - place′) t d (lent held heldOwns s′ olds));
               shown = on-shown (c .text) (outcomeText (round x y z k)) (c .shown) (c .behind) (put .shown);
               behind = on-place (c .text) (outcomeText (round x y z k)) (c .behind) (put .place) (put .long);
               going = going-next t (lent held heldOwns s olds) r d s′ (c .going) w long same (ap (λ (q : Record). q .held) (u .next) ∙ kept .held) (ap (λ (q : Record). q .«open») (u .next) ∙ kept .busy (ap isDone (sym e)));
@@ -192,11 +231,11 @@ module _ (t owns : List ℕ) (n : ℕ) (a b left rule label members ends : List 
       }
 
       -- an answer that is neither done nor a refusal is a round
-      pub turn-on : (answer : Answer) → StepSays (madeFrom r s) answer d s′ → AnswerPut (answerSays answer) place out place′ out′ → OneOf (0 ∷ 2 ∷ []) (tagOf A.the-type answer)
+      pub turn-on : (answer : Answer) → place′ ≤ length out₀ → StepSays (madeFrom r s) answer d s′ → AnswerPut (answerSays answer) place out place′ out′ → OneOf (0 ∷ 2 ∷ []) (tagOf A.the-type answer)
           → Turn (still - 1) place′ d s′ out′
-      turn-on (Round x y z k) u put i = turn-round x y z k u put
-      turn-on (Done x y z) u put i = absurd (miss (0 ∷ 2 ∷ []) 1 tt i)
-      turn-on (Refused q) u put i = let z : _≡_ {A = ℕ} 0 1 = cc (u .answer) in absurd (omega arith)
+      turn-on (Round x y z k) fit u put i = turn-round x y z k fit u put
+      turn-on (Done x y z) fit u put i = absurd (miss (0 ∷ 2 ∷ []) 1 tt i)
+      turn-on (Refused q) fit u put i = let z : _≡_ {A = ℕ} 0 1 = cc (u .answer) in absurd (omega arith)
 
       turn-last : (x y z : ℕ) → place′ ≤ length out₀ → StepSays (madeFrom r s) (Done x y z) d s′ → AnswerPut (said (done x y z)) place out place′ out′
           → Tells (record { mode = Command; «record» = d; printed = place′ }) s′ out′
@@ -212,6 +251,7 @@ module _ (t owns : List ℕ) (n : ℕ) (a b left rule label members ends : List 
               shown = on-shown (c .text) (outcomeText (done x y z)) (c .shown) (c .behind) (put .shown);
               place = on-place (c .text) (outcomeText (done x y z)) (c .behind) (put .place) (put .long);
               room = omega arith;
+              exactly = on-within held heldOwns c o h (omega (arith, put .place)) (put .place) (Done x y z) u;
               rests = ended refl (holding-next t (lent held heldOwns s olds) r d s′ (c .going) w long same);
             };
       }

@@ -1,13 +1,15 @@
 -- The rounds of an update, as many as there is room for, and those that are left. Assumes nothing.
 use mathlib.Core.Path.{_≡_}
-use mathlib.Core.List.{List, []}
-use Prim.Native.Nat.{ℕ, suc, _+_, _<_, _^_}
+use mathlib.Core.Bool.{cond}
+use mathlib.Core.List.{List, [], _++_}
+use Prim.Native.Nat.{ℕ, zero, suc, _+_, _-_, _<_, _^_}
+use lib.Dec.{ltb}
 use lib.ListN.{length, take}
 use lib.Seq.{sets}
 use Rattle.update.specs.declared.Record.{Record}
 use Rattle.update.specs.Memories.{Memory}
 use Rattle.update.specs.Steps.{Outcome, round, done}
-use Rattle.update.specs.Calls.{Said, refused, said}
+use Rattle.update.specs.Calls.{Said, refused, said, stepCall}
 use Rattle.engine.specs.Lent.{lent}
 use Rattle.engine.specs.Order.{Holding, Going}
 use Rattle.engine.specs.Prepared.{Holds}
@@ -35,6 +37,32 @@ pub record AnswerPut (a : Said Outcome) (printed : ℕ) (out : List ℕ) (next :
   pub long : length (answerText a) ≡ 19
   pub shown : out′ ≡ sets out printed (answerText a)
 
+-- ---- the rounds that have room
+
+-- what they print, and then the mode, the record and the memory
+pub record Worked : Type 0 where
+  pub text : List ℕ
+  pub mode : Mode
+  pub next : Record
+  pub memory : Memory
+
+abbrev pub behindText : List ℕ → Worked → Worked
+behindText text w = record { text = text ++ w .text; mode = w .mode; next = w .next; memory = w .memory }
+
+-- a step's answer, as in `stepThen`: behind a round the steps that follow, else commands are heard again
+abbrev pub stepWithin : Said Outcome → Record → Memory → (Record → Memory → Worked) → Worked
+stepWithin (refused n) r m go = record { text = []; mode = Command; next = r; memory = m }
+stepWithin (said (round least k size closed)) r m go = behindText (outcomeText (round least k size closed)) (go r m)
+stepWithin (said (done circles evaluations changed)) r m go = record { text = outcomeText (done circles evaluations changed); mode = Command; next = r; memory = m }
+
+-- n steps at the most, each while its line of 19 bytes has room; those that have none are left
+unfoldable pub stepsWithin : ℕ → ℕ → List ℕ → Record → Memory → Worked
+stepsWithin zero room t r m = record { text = []; mode = Command; next = r; memory = m }
+stepsWithin (suc n) room t r m =
+    cond (ltb room 19)
+    (record { text = []; mode = Working (suc n); next = r; memory = m })
+    (let l = stepCall t m r in stepWithin (l .answer) (l .next) (l .memory) (stepsWithin n (room - 19) t))
+
 -- ---- all the rounds
 
 -- where the rounds stop: the update is done with, or steps are left and a line has no room
@@ -51,6 +79,8 @@ pub record RoundsTold (t : List ℕ) (m : Memory) (r : Record) (turns printed : 
   pub shown : out′ ≡ sets out printed text
   pub place : told .printed ≡ printed + length text
   pub room : told .printed + free ≡ length out
+  -- and nothing of it is left open: so many rounds have room
+  pub exactly : stepsWithin turns (length out - printed) t r m ≡ record { text = text; mode = told .mode; next = told .«record»; memory = m′ }
   pub rests : Rests t m′ (told .«record») free (told .mode) rest
 
 -- the same of the steps over the arrays, whatever memory they were made from: they hold the system of its tree

@@ -107,7 +107,7 @@ loop-again c =
       search needs,
       omega (arith, room k, p .place),
       search needs,
-      turn-on _ _ _ _ _ _ _ _ _ _ _ _ _ _ _ _ _ (l .still) (l .at) (l .work) (l .sets) (l .out) (l .inv .5) (looped-test k) _ _ (within k) (long z) _ _ _ (k .step-in .ensures) p (c .match .keys2),
+      turn-on _ _ _ _ _ _ _ _ _ _ _ _ _ _ _ _ _ (l .still) (l .at) (l .work) (l .sets) (l .out) (l .inv .5) (looped-test k) _ _ (within k) (long z) _ _ _ (omega (arith, room k, p .place)) (k .step-in .ensures) p (c .match .keys2),
     )
 
 pub tell-steps-spec : {M : Type 1} → statement M
