@@ -1,5 +1,4 @@
 // Load and replacement: what opens an update.
-use crate::Begun;
 use judging::judge_ground;
 use judging::judge_load;
 use judging::judge_look;
@@ -17,8 +16,14 @@ ghost use Prim.Native.Nat.{_<_};
 ghost use Rattle.update.specs.Records.{isOpen, opened};
 ghost use Rattle.update.specs.Refusals.{heldRefusal};
 ghost use Rattle.update.specs.Calls.{loadCall, replaceCall};
-ghost use Rattle.engine.specs.Lent.{lent, begun};
-ghost use Rattle.engine.specs.Order.{Grounded, Holding};
+ghost use Rattle.opening.specs.Lent.{lent, begun};
+ghost use Rattle.judging.specs.Order.{Grounded, Holding};
+
+// What a load or a replacement answers, and the record that it leaves.
+pub struct Begun {
+    pub verdict: Verdict,
+    pub record: Record,
+}
 
 // "A record just opened has rank and round 0", and has counted nothing.
 fn just_opened(open: Open, nodes: usize, point: usize, part: usize) -> Record
