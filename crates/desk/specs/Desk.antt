@@ -4,8 +4,6 @@ use mathlib.Core.Bool.{Bool, true}
 use mathlib.Core.List.{List, _++_}
 use Prim.Native.Nat.{ℕ, _≤_}
 use lib.ListN.{length, take}
-use Rattle.refusal.specs.declared.Verdict.{Verdict}
-use Rattle.refusal.specs.declared.Verdict.the-variants as verdict
 use Rattle.update.specs.declared.Record.{Record}
 use Rattle.update.specs.Records.{emptyRecord}
 use Rattle.update.specs.Memories.{Memory}
@@ -59,18 +57,7 @@ pub record Fits (d : Desk) (out : List ℕ) : Type 0 where
   pub line : Begun (lineOf d)
   pub sound : Sound (d .state .mode) (tableOf d) (d .memory) (d .state .«record»)
 
--- what a state is besides that its memory is wide: t are the table's words
-pub record Settled (s : State) (t window : List ℕ) (m : Memory) : Type 0 where
-  pub begun : s .begun ≤ 28
-  pub line : Begun (take (s .begun) window)
-  pub sound : Sound (s .mode) t m (s .«record»)
-
 -- a test that is true exactly where P holds
 pub record Tests (b : Bool) (P : Type 0) : Type 0 where
   pub yes : b ≡ true → P
   pub no : P → b ≡ true
-
--- a verdict that is sound exactly where P holds
-pub record Decides (v : Verdict) (P : Type 0) : Type 0 where
-  pub yes : v ≡ verdict.Sound → P
-  pub no : P → v ≡ verdict.Sound

@@ -17,13 +17,14 @@ ghost use mathlib.Core.Path.{_≡_};
 ghost use mathlib.Core.Bool.{true, not};
 ghost use Prim.Native.Nat.{_≤_};
 ghost use lib.ListN.{length, take};
-ghost use Rattle.table.specs.Judge.{refusalAt};
-ghost use Rattle.frames.specs.Walk.{entryOf, isOn};
-ghost use Rattle.texts.specs.Read.{Awaits, Sofar};
+ghost use Rattle.refusal.specs.Numbers.{verdictOf};
+ghost use Rattle.update.specs.Refusals.{firstRefusal};
+ghost use Rattle.frames.specs.Walk.{isOn};
+ghost use Rattle.texts.specs.Read.{Awaits};
 ghost use Rattle.engine.specs.Lent.{lent};
-ghost use Rattle.engine.specs.Order.{Holding};
 ghost use Rattle.hearing.specs.Owed.{Begun};
-ghost use Rattle.desk.specs.Desk.{Wide, Settled, Tests, Decides};
+ghost use Rattle.desk.specs.Desk.{Wide, Tests};
+ghost use Rattle.desk.specs.Refusals.{frameRefusal, sofarRefusal, keptNumbers, settledNumbers};
 
 // A buffer is shorter than a line, a command's nodes, a table, the engine or what a line can print asks for.
 pub fn is_narrow(
@@ -126,7 +127,7 @@ fn is_same(a: Expected, b: Expected) -> bool
 // The judgement of one frame of a table.
 fn judge_at(table: &[u64; 2657], expected: Expected) -> Verdict
     requires { ⌜ Awaits (now table) expected ⌝ }
-    ensures { λ r. ⌜ Decides r ((isOn expected ≡ true) × (refusalAt (now (table .entry)) (entryOf expected) ≡ 0)) ⌝ }
+    ensures { λ r. ⌜ verdictOf r ≡ frameRefusal (now (table .entry)) expected ⌝ }
 {
     match expected {
         Expected::AtHeader => judge_header(table),
@@ -139,7 +140,7 @@ fn judge_at(table: &[u64; 2657], expected: Expected) -> Verdict
 
 // The frames of a table before the one that is expected: 1 to 5 at the first that is refused, 11 where no walk comes to it.
 fn judge_so_far(table: &[u64; 2657], expected: Expected) -> Verdict
-    ensures { λ r. ⌜ Decides r (Sofar (now (table .entry)) expected × (isOn expected ≡ true)) ⌝ }
+    ensures { λ r. ⌜ verdictOf r ≡ sofarRefusal (now (table .entry)) expected ⌝ }
 {
     let mut x = Expected::AtHeader;
     let mut still: usize = 2657;
@@ -169,7 +170,7 @@ fn judge_kept(
     sets: &[u64],
     before: &[u64],
 ) -> Verdict
-    ensures { λ r. ⌜ Decides r (Holding (now (table .entry)) (lent (now (held .entry)) (now («held_owns» .entry)) (now (sets .entry)) (now (before .entry))) «record») ⌝ }
+    ensures { λ r. ⌜ verdictOf r ≡ firstRefusal (keptNumbers (now (table .entry)) (lent (now (held .entry)) (now («held_owns» .entry)) (now (sets .entry)) (now (before .entry))) «record») ⌝ }
 {
     match judge_ground(table, record, held, held_owns, sets, before) {
         Verdict::Sound => {
@@ -193,7 +194,7 @@ pub fn judge_state(
     before: &[u64],
 ) -> Verdict
     requires { ⌜ 29 ≤ length (now window) ⌝ }
-    ensures { λ r. ⌜ Decides r (Settled state (now (table .entry)) (now (window .entry)) (lent (now (held .entry)) (now («held_owns» .entry)) (now (sets .entry)) (now (before .entry)))) ⌝ }
+    ensures { λ r. ⌜ verdictOf r ≡ firstRefusal (settledNumbers state (now (table .entry)) (now (window .entry)) (lent (now (held .entry)) (now («held_owns» .entry)) (now (sets .entry)) (now (before .entry)))) ⌝ }
 {
     if !is_begun(window, state.begun) {
         return Verdict::Refused(Refusal::Fields);

@@ -1,59 +1,89 @@
 -- The line first, and then what each mode goes with. Assumes nothing.
-use mathlib.Core.Path.{_≡_, refl}
-use mathlib.Core.List.{List}
+use mathlib.Core.Path.{_≡_, refl, sym, _∙_}
+use mathlib.Core.Bool.{Bool, true, false}
+use mathlib.Core.List.{List, [], _∷_}
+use mathlib.Core.Logic.{⊎-elim}
 use Prim.Native.Nat.{ℕ, _≤_, _<_}
 use native.Mathlib.Omega.{arith}
 use borrow.Author.Needs.{needs}
-use borrow.Author.Tests.{not-true, not-false}
+use borrow.Author.Tests.{not-true, not-false, le-leb, lt-leb}
+use lib.Dec.{leb}
 use lib.ListN.{take}
-use Rattle.refusal.specs.Numbers.{verdictOf}
-use Rattle.refusal.specs.declared.Verdict.{Verdict}
-use Rattle.refusal.specs.declared.Verdict.the-variants.{Refused}
-use Rattle.refusal.specs.declared.Refusal.the-variants.{Fields}
-use Rattle.update.specs.declared.Record.{Record}
+use Rattle.table.specs.First.{orElse, first}
+use Rattle.climb.proofs.Lists.{either}
 use Rattle.update.specs.Memories.{Memory}
-use Rattle.update.specs.Refusals.{stepRefusal}
+use Rattle.update.specs.Refusals.{firstRefusal, stepRefusal}
+use Rattle.frames.specs.declared.Expected.{Expected}
 use Rattle.engine.specs.Lent.{lent}
-use Rattle.engine.specs.Order.{Going}
-use Rattle.engine.proofs.Orders.{going, step-none}
-use Rattle.hearing.specs.Owed.{Sound, Begun}
+use Rattle.engine.proofs.Orders.{or-zero}
+use Rattle.hearing.specs.Owed.{Begun}
 use Rattle.hearing.specs.declared.Order.{Order}
 use Rattle.hearing.specs.declared.Mode.{Mode}
 use Rattle.hearing.specs.declared.Mode.the-variants.{Table, Command, Nodes, Working, Stopped}
-use Rattle.desk.specs.Desk.{Settled, Decides}
+use Rattle.desk.specs.Desk.{Tests}
+use Rattle.desk.specs.Refusals.{overrun, sofarRefusal, keptNumbers, modeRefusal, settledNumbers}
 use Rattle.desk.specs.declared.State.{State}
-use Rattle.desk.proofs.Deciding.{decides-zero, decides-as, decides-yes, decides-no, tested-not}
+use Rattle.desk.proofs.Deciding.{tested-not}
+use Rattle.desk.proofs.Meaning.{overrun-means}
 use Rattle.desk.proofs.fitting.judge_state.Statement.{statement}
 use Rattle.desk.proofs.fitting.judge_state.Tie as tie
 
-stepping : (t : List ℕ) (m : Memory) (r : Record) (v : Verdict) → verdictOf v ≡ stepRefusal t m r → Decides v (Going t m r)
-stepping t m r v e = decides-as (decides-zero v (stepRefusal t m r) e) (going t m r) (step-none t m r)
+module _ (s : State) (t window : List ℕ) (m : Memory) (b : Bool) (begun : Tests b ((s .begun ≤ 28) × Begun (take (s .begun) window))) where
+  no-line : b ≡ false → 11 ≡ firstRefusal (settledNumbers s t window m)
+  unfolding first
+  no-line h = ⊎-elim
+      (λ (o : overrun (s .begun) window ≡ true). rw o)
+      (λ (o : overrun (s .begun) window ≡ false). absurd (tested-not begun h (overrun-means (s .begun) window .0 o)))
+      (either (overrun (s .begun) window))
 
-module _ (s : State) (t window : List ℕ) (m : Memory) where
-  settles : (mode : Mode) {v : Verdict} → s .mode ≡ mode → (s .begun ≤ 28) × Begun (take (s .begun) window) → Decides v (Sound mode t m (s .«record»)) → Decides v (Settled s t window m)
-  settles mode e b d = decides-as d (λ z. record { begun = b .0; line = b .1; sound = rw e z }) (λ k. rw e at (k .sound))
+  -- where the line is begun, what is waited for decides
+  settles : (mode : Mode) (n : ℕ) → b ≡ true → s .mode ≡ mode → n ≡ modeRefusal mode t m (s .«record») → n ≡ firstRefusal (settledNumbers s t window m)
+  unfolding first
+  settles mode n h e k = rw (overrun-means (s .begun) window .1 (begun .yes h), e) (k ∙ sym (or-zero (modeRefusal mode t m (s .«record»))))
 
-  no-room : (order : Order) (count taken line : ℕ) → s .mode ≡ Nodes order count taken line → count ≤ taken → Decides (Refused Fields) (Settled s t window m)
-  no-room order count taken line e h = decides-no refl (λ k. let f : Sound (Nodes order count taken line) t m (s .«record») = rw e at (k .sound) in omega (arith, f .1))
+  table : (x : Expected) → sofarRefusal t x ≡ modeRefusal (Table x) t m (s .«record»)
+  unfolding modeRefusal
+  table x = refl
+
+  working : (turns : ℕ) → stepRefusal t m (s .«record») ≡ modeRefusal (Working turns) t m (s .«record»)
+  unfolding modeRefusal
+  working turns = refl
+
+  over : 0 ≡ modeRefusal Stopped t m (s .«record»)
+  unfolding modeRefusal
+  over = refl
+
+  command : firstRefusal (keptNumbers t m (s .«record»)) ≡ modeRefusal Command t m (s .«record»)
+  unfolding modeRefusal
+  command = refl
+
+  module _ (order : Order) (count taken line : ℕ) where
+    no-room : count ≤ taken → 11 ≡ modeRefusal (Nodes order count taken line) t m (s .«record»)
+    unfolding modeRefusal first
+    no-room h = rw (le-leb count taken h)
+
+    node : taken < count → firstRefusal (keptNumbers t m (s .«record»)) ≡ modeRefusal (Nodes order count taken line) t m (s .«record»)
+    unfolding modeRefusal first
+    node h = rw (lt-leb count taken h)
 
 pub judge-state-spec : {M : Type 1} → statement M
 judge-state-spec =
     tie.close
     (tie.spec
     (λ c κs. search needs)
-    (λ c. let a = c .before .before .before .before .before .before .before .args in decides-no refl (λ k. tested-not (c .before .is-begun .ensures) (not-true (c .before .is-begun .result) (c .if1 .taken)) (k .begun, k .line)))
+    (λ c. let a = c .before .before .before .before .before .before .before .args in no-line (a .state) (a .table .now) (a .window .now) (lent (a .held .now) (a .held-owns .now) (a .sets .now) (a .before .now)) _ (c .before .is-begun .ensures) (not-true (c .before .is-begun .result) (c .if1 .taken)))
     (λ c. search needs)
     (λ c κs. search needs)
     (λ c. search needs)
     (λ c κs. search needs)
     (λ c. search needs)
-    (λ c. let a = c .before .before .before .before .before .before .before .before .before .before .before .before .args in let g = c .before .before .mode2 .given in no-room (a .state) (a .table .now) (a .window .now) (lent (a .held .now) (a .held-owns .now) (a .sets .now) (a .before .now)) (g .0 .0) (g .0 .1 .0) (g .0 .1 .1 .0) (g .0 .1 .1 .1 .0) (g .1) (c .if2 .taken))
+    (λ c. let a = c .before .before .before .before .before .before .before .before .before .before .before .before .args in let g = c .before .before .mode2 .given in settles (a .state) (a .table .now) (a .window .now) (lent (a .held .now) (a .held-owns .now) (a .sets .now) (a .before .now)) _ (c .before .before .before .before .before .before .is-begun .ensures) (Nodes (g .0 .0) (g .0 .1 .0) (g .0 .1 .1 .0) (g .0 .1 .1 .1 .0)) _ (not-false (c .before .before .before .before .before .before .is-begun .result) (c .before .before .before .before .before .if1 .left)) (g .1) (no-room (a .state) (a .table .now) (a .window .now) (lent (a .held .now) (a .held-owns .now) (a .sets .now) (a .before .now)) _ (c .before .before .before .before .before .before .is-begun .ensures) (g .0 .0) (g .0 .1 .0) (g .0 .1 .1 .0) (g .0 .1 .1 .1 .0) (c .if2 .taken)))
     (λ c κs. search needs)
     (λ c. search needs)
     (λ c κs. search needs)
     (λ c. search needs)
-    (λ c. let a = c .before .before .before .before .before .before .before .before .before .before .before .before .args in let g = c .before .before .mode .given in settles (a .state) (a .table .now) (a .window .now) (lent (a .held .now) (a .held-owns .now) (a .sets .now) (a .before .now)) (Table (g .0 .0)) (g .1) (c .before .before .before .before .before .before .is-begun .ensures .yes (not-false (c .before .before .before .before .before .before .is-begun .result) (c .before .before .before .before .before .if1 .left))) (c .judge-so-far .ensures))
-    (λ c. let a = c .before .before .before .before .before .before .before .before .before .before .before .args in settles (a .state) (a .table .now) (a .window .now) (lent (a .held .now) (a .held-owns .now) (a .sets .now) (a .before .now)) Command (c .before .enum-told .given .1) (c .before .before .before .before .before .is-begun .ensures .yes (not-false (c .before .before .before .before .before .is-begun .result) (c .before .before .before .before .if1 .left))) (c .judge-kept .ensures))
-    (λ c. let a = c .before .before .before .before .before .before .before .before .before .before .before .before .before .args in let g = c .before .before .before .mode2 .given in settles (a .state) (a .table .now) (a .window .now) (lent (a .held .now) (a .held-owns .now) (a .sets .now) (a .before .now)) (Nodes (g .0 .0) (g .0 .1 .0) (g .0 .1 .1 .0) (g .0 .1 .1 .1 .0)) (g .1) (c .before .before .before .before .before .before .before .is-begun .ensures .yes (not-false (c .before .before .before .before .before .before .before .is-begun .result) (c .before .before .before .before .before .before .if1 .left))) (decides-as (c .judge-kept2 .ensures) (λ k. (k, c .before .if2 .left)) (λ w. w .0)))
-    (λ c. let a = c .before .before .before .before .before .before .before .before .before .before .before .before .args in let g = c .before .before .mode3 .given in settles (a .state) (a .table .now) (a .window .now) (lent (a .held .now) (a .held-owns .now) (a .sets .now) (a .before .now)) (Working (g .0 .0)) (g .1) (c .before .before .before .before .before .before .is-begun .ensures .yes (not-false (c .before .before .before .before .before .before .is-begun .result) (c .before .before .before .before .before .if1 .left))) (stepping (a .table .now) (lent (a .held .now) (a .held-owns .now) (a .sets .now) (a .before .now)) (a .state .«record») (c .judge-step .result) (c .judge-step .ensures)))
-    (λ c. let a = c .before .before .before .before .before .before .before .before .before .before .args in settles (a .state) (a .table .now) (a .window .now) (lent (a .held .now) (a .held-owns .now) (a .sets .now) (a .before .now)) Stopped (c .enum-told2 .given .1) (c .before .before .before .before .is-begun .ensures .yes (not-false (c .before .before .before .before .is-begun .result) (c .before .before .before .if1 .left))) (decides-yes refl tt)))
+    (λ c. let a = c .before .before .before .before .before .before .before .before .before .before .before .before .args in let g = c .before .before .mode .given in settles (a .state) (a .table .now) (a .window .now) (lent (a .held .now) (a .held-owns .now) (a .sets .now) (a .before .now)) _ (c .before .before .before .before .before .before .is-begun .ensures) (Table (g .0 .0)) _ (not-false (c .before .before .before .before .before .before .is-begun .result) (c .before .before .before .before .before .if1 .left)) (g .1) (c .judge-so-far .ensures ∙ table (a .state) (a .table .now) (a .window .now) (lent (a .held .now) (a .held-owns .now) (a .sets .now) (a .before .now)) _ (c .before .before .before .before .before .before .is-begun .ensures) (g .0 .0)))
+    (λ c. let a = c .before .before .before .before .before .before .before .before .before .before .before .args in settles (a .state) (a .table .now) (a .window .now) (lent (a .held .now) (a .held-owns .now) (a .sets .now) (a .before .now)) _ (c .before .before .before .before .before .is-begun .ensures) Command _ (not-false (c .before .before .before .before .before .is-begun .result) (c .before .before .before .before .if1 .left)) (c .before .enum-told .given .1) (c .judge-kept .ensures ∙ command (a .state) (a .table .now) (a .window .now) (lent (a .held .now) (a .held-owns .now) (a .sets .now) (a .before .now)) _ (c .before .before .before .before .before .is-begun .ensures)))
+    (λ c. let a = c .before .before .before .before .before .before .before .before .before .before .before .before .before .args in let g = c .before .before .before .mode2 .given in settles (a .state) (a .table .now) (a .window .now) (lent (a .held .now) (a .held-owns .now) (a .sets .now) (a .before .now)) _ (c .before .before .before .before .before .before .before .is-begun .ensures) (Nodes (g .0 .0) (g .0 .1 .0) (g .0 .1 .1 .0) (g .0 .1 .1 .1 .0)) _ (not-false (c .before .before .before .before .before .before .before .is-begun .result) (c .before .before .before .before .before .before .if1 .left)) (g .1) (c .judge-kept2 .ensures ∙ node (a .state) (a .table .now) (a .window .now) (lent (a .held .now) (a .held-owns .now) (a .sets .now) (a .before .now)) _ (c .before .before .before .before .before .before .before .is-begun .ensures) (g .0 .0) (g .0 .1 .0) (g .0 .1 .1 .0) (g .0 .1 .1 .1 .0) (c .before .if2 .left)))
+    (λ c. let a = c .before .before .before .before .before .before .before .before .before .before .before .before .args in let g = c .before .before .mode3 .given in settles (a .state) (a .table .now) (a .window .now) (lent (a .held .now) (a .held-owns .now) (a .sets .now) (a .before .now)) _ (c .before .before .before .before .before .before .is-begun .ensures) (Working (g .0 .0)) _ (not-false (c .before .before .before .before .before .before .is-begun .result) (c .before .before .before .before .before .if1 .left)) (g .1) (c .judge-step .ensures ∙ working (a .state) (a .table .now) (a .window .now) (lent (a .held .now) (a .held-owns .now) (a .sets .now) (a .before .now)) _ (c .before .before .before .before .before .before .is-begun .ensures) (g .0 .0)))
+    (λ c. let a = c .before .before .before .before .before .before .before .before .before .before .args in settles (a .state) (a .table .now) (a .window .now) (lent (a .held .now) (a .held-owns .now) (a .sets .now) (a .before .now)) _ (c .before .before .before .before .is-begun .ensures) Stopped _ (not-false (c .before .before .before .before .is-begun .result) (c .before .before .before .if1 .left)) (c .enum-told2 .given .1) (over (a .state) (a .table .now) (a .window .now) (lent (a .held .now) (a .held-owns .now) (a .sets .now) (a .before .now)) _ (c .before .before .before .before .is-begun .ensures))))
