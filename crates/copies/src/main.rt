@@ -1,15 +1,15 @@
 // Reads the text of a table and then of a tree from standard input and writes both back, so that reading and writing can be counted by themselves.
 //
 // The argument says how far it goes: `take` the bytes, `read` the table and the tree, `write` them back. Accepted text comes back as it went in.
-use frames::ReadTable;
-use frames::ReadTree;
 use frames::Written;
-use frames::read_table;
-use frames::read_tree;
-use frames::write_table;
-use frames::write_tree;
 use libc::STDIN_FILENO;
 use libc::STDOUT_FILENO;
+use planting::ReadTree;
+use planting::read_tree;
+use planting::write_tree;
+use texts::ReadTable;
+use texts::read_table;
+use texts::write_table;
 
 // How far: 1 to 3, or 0 for a word that it doesn't know.
 fn asked() -> u8 {

@@ -17,7 +17,7 @@ use Rattle.climb.proofs.Lists.{either, and-is}
 use Rattle.frames.specs.declared.Expected.{Expected}
 use Rattle.frames.specs.declared.Expected.the-variants.{AtHeader, AtSymbol, AtProduction, AtEquation, Ended}
 use Rattle.frames.specs.Walk.{entryOf, nextOf, isOn}
-use Rattle.frames.specs.Read.{Sofar}
+use Rattle.texts.specs.Read.{Sofar}
 use Rattle.desk.specs.Desk.{Tests}
 use Rattle.desk.specs.Refusals.{frameRefusal, placeOf, alike, meets, walkRefusal, sofarRefusal}
 use Rattle.desk.specs.Refused.{Comes, first, next, StopsBefore}

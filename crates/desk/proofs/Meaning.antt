@@ -15,7 +15,7 @@ use Rattle.table.proofs.FirstLaws.{some-none, some-all}
 use Rattle.climb.proofs.Lists.{or-false-is}
 use Rattle.update.specs.Refusals.{short}
 use Rattle.update.proofs.Within.{short-means}
-use Rattle.session.specs.Owed.{Begun}
+use Rattle.hearing.specs.Owed.{Begun}
 use Rattle.desk.specs.Desk.{Desk, Wide}
 use Rattle.desk.specs.Refusals.{narrow, overrun}
 use Rattle.desk.specs.Refused.{NarrowMeans, OverrunMeans}

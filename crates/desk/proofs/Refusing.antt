@@ -22,10 +22,10 @@ use Rattle.update.proofs.Refusing.{all-exactly}
 use Rattle.update.proofs.Within.{short-means, beyond-means}
 use Rattle.engine.specs.Order.{Holding}
 use Rattle.engine.proofs.Orders.{or-zero, going, step-none}
-use Rattle.session.specs.Owed.{Sound}
-use Rattle.session.specs.declared.Order.{Order}
-use Rattle.session.specs.declared.Mode.{Mode}
-use Rattle.session.specs.declared.Mode.the-variants.{Table, Command, Nodes, Working, Stopped}
+use Rattle.hearing.specs.Owed.{Sound}
+use Rattle.hearing.specs.declared.Order.{Order}
+use Rattle.hearing.specs.declared.Mode.{Mode}
+use Rattle.hearing.specs.declared.Mode.the-variants.{Table, Command, Nodes, Working, Stopped}
 use Rattle.frames.specs.declared.Expected.{Expected}
 use Rattle.desk.specs.Desk.{Desk, Wide, Fits, tableOf}
 use Rattle.desk.specs.Refusals.{narrow, overrun, sofarRefusal, keptNumbers, modeRefusal, settledNumbers, stateRefusal}

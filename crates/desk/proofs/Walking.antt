@@ -13,10 +13,10 @@ use Rattle.table.specs.Words.{symbolCount, productionCount, childCount, defined
 use Rattle.table.specs.Judge.{header, symbol, production, equation, refusalAt}
 use Rattle.table.specs.Shape.{Shaped}
 use Rattle.frames.specs.Walk.{entryOf, afterPart, seekFrom, nextOf, isOn, Ready}
-use Rattle.frames.specs.Read.{store, Awaits, Top, Part, Sofar}
+use Rattle.texts.specs.Read.{store, Awaits, Top, Part, Sofar}
 use Rattle.frames.specs.declared.Expected.{Expected}
 use Rattle.frames.specs.declared.Expected.the-variants.{AtHeader, AtSymbol, AtProduction, AtEquation, Ended}
-use Rattle.frames.proofs.Sofar.{some-counts, shaped-so, step-goes, awaits-so}
+use Rattle.texts.proofs.Sofar.{some-counts, shaped-so, step-goes, awaits-so}
 
 -- ---- the order of the frames, as numbers
 

@@ -1,17 +1,17 @@
 // Whether the memory lent can be a session's: a public call takes any.
 use crate::State;
+use checking::judge_equation;
+use checking::judge_header;
+use checking::judge_production;
+use checking::judge_symbol;
 use frames::Expected;
 use frames::next_of;
+use hearing::Mode;
 use judging::judge_ground;
 use judging::judge_holding;
 use judging::judge_step;
 use refusal::Refusal;
 use refusal::Verdict;
-use session::Mode;
-use table::judge_equation;
-use table::judge_header;
-use table::judge_production;
-use table::judge_symbol;
 use update::Record;
 ghost use mathlib.Core.Path.{_≡_};
 ghost use mathlib.Core.Bool.{true, not};
@@ -20,9 +20,9 @@ ghost use lib.ListN.{length, take};
 ghost use Rattle.refusal.specs.Numbers.{verdictOf};
 ghost use Rattle.update.specs.Refusals.{firstRefusal};
 ghost use Rattle.frames.specs.Walk.{isOn};
-ghost use Rattle.frames.specs.Read.{Awaits};
+ghost use Rattle.texts.specs.Read.{Awaits};
 ghost use Rattle.engine.specs.Lent.{lent};
-ghost use Rattle.session.specs.Owed.{Begun};
+ghost use Rattle.hearing.specs.Owed.{Begun};
 ghost use Rattle.desk.specs.Desk.{Wide, Tests};
 ghost use Rattle.desk.specs.Refusals.{frameRefusal, sofarRefusal, keptNumbers, settledNumbers};
 

@@ -7,9 +7,9 @@ use lib.ListN.{length}
 use Rattle.refusal.specs.Only.{Only, After}
 use Rattle.update.specs.declared.Record.{Record}
 use Rattle.update.specs.Memories.{Memory}
-use Rattle.frames.specs.declared.ReadTree.{ReadTree}
+use Rattle.planting.specs.declared.ReadTree.{ReadTree}
 use Rattle.frames.specs.declared.Written.{Written}
-use Rattle.frames.specs.Growing.{plantingAt, treeAnswer, productionsAfter, ownsAfter}
+use Rattle.planting.specs.Growing.{plantingAt, treeAnswer, productionsAfter, ownsAfter}
 use Rattle.dump.specs.Calls.{wrote, dumpCall}
 
 pub record TreesOne : Type 0 where

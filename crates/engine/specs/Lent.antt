@@ -2,26 +2,13 @@
 use mathlib.Core.Path.{_≡_}
 use mathlib.Core.List.{List}
 use Prim.Native.Nat.{ℕ}
-use Rattle.refusal.specs.Numbers.{numberOf}
-use Rattle.refusal.specs.declared.Verdict.{Verdict}
-use Rattle.refusal.specs.declared.Verdict.the-variants.{Sound, Refused}
 use Rattle.update.specs.Memories.{Memory}
 use Rattle.update.specs.Steps.{Outcome}
-use Rattle.update.specs.Calls.{Said, refused, said, answerSays, Ranged, runSays, Left, Opened, is-open, runCall}
+use Rattle.update.specs.Calls.{Said, answerSays, Ranged, runSays, Left, runCall}
 use Rattle.update.specs.declared.Record.{Record}
 use Rattle.update.specs.declared.Answer.{Answer}
 use Rattle.update.specs.declared.Run.{Run}
-use Rattle.engine.specs.declared.Begun.{Begun}
-pub use Rattle.judging.specs.Lent.{lent}
-
--- what document 01's numbers and values are, of each verdict of a load or a replacement
-abbrev pub openedSays : Verdict → Said Opened
-openedSays Sound = said is-open
-openedSays (Refused r) = refused (numberOf r)
-
--- a load or a replacement's answer and record, with the memory that it left
-abbrev pub begun : Begun → Memory → Left (Said Opened)
-begun b m = record { answer = openedSays (b .verdict); next = b .«record»; memory = m }
+pub use Rattle.opening.specs.Lent.{lent, openedSays, begun}
 
 -- a step's
 abbrev pub stepped : Answer → Record → Memory → Left (Said Outcome)

@@ -1,16 +1,10 @@
 -- What is promised of frames: windows, and that what is written is read and what is read is written. Assumes nothing.
 use mathlib.Core.Path.{_≡_}
-use mathlib.Core.List.{List, [], _∷_, _++_}
+use mathlib.Core.List.{List, _++_}
 use Prim.Native.Nat.{ℕ, zero, suc, _+_, _^_, _≤_, _<_}
-use lib.ListN.{length, getD, take, drop}
-use Rattle.table.specs.Judge.{frames, judgeTable}
-use Rattle.table.specs.Same.{Same}
-use Rattle.tree.specs.Refusals.{treeRefusal}
+use lib.ListN.{length, take, drop}
 use Rattle.frames.specs.Frames.{frameAt, lineAfter}
-use Rattle.frames.specs.Text.{textOf, treeText, tableText}
-use Rattle.frames.specs.Reading.{done, readingAt}
-use Rattle.frames.specs.Planting.{good, treeAt}
-use Rattle.frames.specs.Growing.{plantingAt}
+use Rattle.frames.specs.Text.{textOf}
 use Rattle.frames.specs.declared.Children.{Children}
 use Rattle.frames.specs.declared.Step.{Step}
 use Rattle.frames.specs.declared.Frame.{Frame}
@@ -62,65 +56,7 @@ pub record Forth (s : List ℕ) (place line : ℕ) (f : Frame) : Type 0 where
 abbrev pub ForthAll : Type 0
 ForthAll = (s : List ℕ) (place line : ℕ) → Fits (frameAt s place line .frame) → Forth s place line (frameAt s place line .frame)
 
--- nodes as memory has them: a byte and a set each
-abbrev pub AllFit : List ℕ → List ℕ → Type 0
-AllFit [] [] = Unit {0}
-AllFit [] (o ∷ owns) = ⊥
-AllFit (p ∷ ps) [] = ⊥
-AllFit (p ∷ ps) (o ∷ owns) = (p < 2 ^ 8) × ((o < 2 ^ 64) × AllFit ps owns)
-
 -- the number of the line that is n lines further on
 abbrev pub linesAfter : ℕ → ℕ → ℕ
 linesAfter zero line = line
 linesAfter (suc n) line = linesAfter n (lineAfter line)
-
--- a tree that is written reads back equal
-abbrev pub TreeBack : Type 0
-TreeBack = (ps owns rest : List ℕ) (line : ℕ) → AllFit ps owns → length ps < 2 ^ 16
-    → treeAt (treeText ps owns ++ rest) 0 line ≡ good ps owns (length (treeText ps owns)) (linesAfter (suc (length ps)) line)
-
--- a text that is read as a tree is the tree's text
-pub record TreeForth (s : List ℕ) (place : ℕ) (ps owns : List ℕ) (end : ℕ) : Type 0 where
-  pub text : take (length (treeText ps owns)) (drop place s) ≡ treeText ps owns
-  pub behind : end ≡ place + length (treeText ps owns)
-  pub fit : AllFit ps owns
-
-abbrev pub TreeForthAll : Type 0
-TreeForthAll = (s : List ℕ) (place line : ℕ) (ps owns : List ℕ) (end next : ℕ) → treeAt s place line ≡ good ps owns end next → TreeForth s place ps owns end
-
--- a tree that may be written is read again into memory that has room for it
-abbrev pub GrownBack : Type 0
-GrownBack = (t ps owns rest : List ℕ) (line room roomOwns : ℕ) → AllFit ps owns → treeRefusal t ps owns ≡ 0 → length ps ≤ room → length ps ≤ roomOwns
-    → plantingAt t (treeText ps owns ++ rest) 0 line room roomOwns ≡ good ps owns (length (treeText ps owns)) (linesAfter (suc (length ps)) line)
-
--- a text that is accepted over a table is the text of a tree that may be written
-pub record GrownForth (t s : List ℕ) (place : ℕ) (ps owns : List ℕ) (end : ℕ) : Type 0 where
-  pub tree : TreeForth s place ps owns end
-  pub sound : treeRefusal t ps owns ≡ 0
-
-abbrev pub GrownForthAll : Type 0
-GrownForthAll = (t s : List ℕ) (place line room roomOwns : ℕ) (ps owns : List ℕ) (end next : ℕ)
-    → plantingAt t s place line room roomOwns ≡ good ps owns end next → GrownForth t s place ps owns end
-
--- a text that is read as a table is the table's text, and the table is sound
-pub record TableForth (s : List ℕ) (place : ℕ) (t : List ℕ) (end : ℕ) : Type 0 where
-  pub text : take (length (tableText t)) (drop place s) ≡ tableText t
-  pub behind : end ≡ place + length (tableText t)
-  pub sound : judgeTable t ≡ 0
-  pub size : length t ≡ 2657
-
-abbrev pub TableForthAll : Type 0
-TableForthAll = (s : List ℕ) (place line : ℕ) (t : List ℕ) (end next : ℕ) → readingAt s place line ≡ done t end next → TableForth s place t end
-
--- words as memory has them
-abbrev pub AllWords : List ℕ → Type 0
-AllWords t = (m : ℕ) → getD t m 0 < 2 ^ 64
-
--- a sound table that is written reads back equal: "equality doesn't look" at what lies beyond its counts
-pub record TableBack (t rest : List ℕ) (line : ℕ) : Type 0 where
-  pub words : List ℕ
-  pub read : readingAt (tableText t ++ rest) 0 line ≡ done words (length (tableText t)) (linesAfter (length (frames t)) line)
-  pub same : Same t words
-
-abbrev pub TableBackAll : Type 0
-TableBackAll = (t rest : List ℕ) (line : ℕ) → judgeTable t ≡ 0 → AllWords t → TableBack t rest line

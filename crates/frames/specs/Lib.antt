@@ -2,11 +2,5 @@ pub mod Frames
 pub mod Out
 pub mod Text
 pub mod Walk
-pub mod Written
-pub mod Read
 pub mod Moved
-pub mod Reading
-pub mod Unique
 pub mod Laws
-pub mod Planting
-pub mod Growing

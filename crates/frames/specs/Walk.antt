@@ -2,14 +2,12 @@
 use Prim.Native.Nat.{ℕ, zero, suc, _+_, _-_, _≤_, _<_}
 use mathlib.Core.Path.{_≡_}
 use mathlib.Core.Bool.{Bool, true, false, cond}
-use mathlib.Core.List.{List, [], _∷_, _++_}
+use mathlib.Core.List.{List, [], _∷_}
 use lib.Dec.{ltb}
 use lib.ListN.{length}
-use Rattle.table.specs.Words.{symbolCount, productionCount, childCount, defined, ruleOf, headAt}
-use Rattle.table.specs.Equations.{opNumber}
+use Rattle.table.specs.Words.{symbolCount, productionCount, childCount, defined}
 use Rattle.table.specs.Judge.{Frame, header, symbol, production, equation, frames, judgeTable}
 use Rattle.table.specs.Shape.{Shaped}
-use Rattle.frames.specs.Text.{shown, textOf}
 use Rattle.frames.specs.declared.Expected.{Expected}
 use Rattle.frames.specs.declared.Expected.the-variants.{AtHeader, AtSymbol, AtProduction, AtEquation, Ended}
 
@@ -53,22 +51,6 @@ isOn (AtSymbol s) = true
 isOn (AtProduction p) = true
 isOn (AtEquation p q k) = true
 isOn Ended = false
-
--- an equation's operation is one of the nine: its number is one byte
-abbrev pub Shows : List ℕ → Expected → Type 0
-Shows t AtHeader = Unit {0}
-Shows t (AtSymbol s) = Unit {0}
-Shows t (AtProduction p) = Unit {0}
-Shows t (AtEquation p q k) = opNumber (headAt t (ruleOf p q k)) ≤ 8
-Shows t Ended = Unit {0}
-
--- the text of the frame that is expected
-unfoldable pub textAt : List ℕ → Expected → List ℕ
-textAt t AtHeader = textOf (shown t header)
-textAt t (AtSymbol s) = textOf (shown t (symbol s))
-textAt t (AtProduction p) = textOf (shown t (production p))
-textAt t (AtEquation p q k) = textOf (shown t (equation p q k))
-textAt t Ended = []
 
 -- the frames that are passed from an expected one on, n at most
 unfoldable pub walkFrom : ℕ → List ℕ → Expected → List Frame

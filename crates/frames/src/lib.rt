@@ -1,26 +1,16 @@
-// Frames of text: one a line. Tables and trees to and from text, and what a session prints.
-mod grow;
+// Frames of text: one a line; which frame of a table comes next, and what a session prints.
 mod kinds;
 mod out;
-mod plant;
-mod read;
 mod walk;
-mod whole;
-mod write;
 
-pub use grow::read_tree;
 pub use kinds::frame_at;
 pub use out::put_done;
 pub use out::put_refusal;
 pub use out::put_round;
 pub use out::put_set;
-pub use plant::write_tree;
-pub use read::take_frame;
 use refusal::Refusal;
 use sets::Argument;
 pub use walk::next_of;
-pub use whole::read_table;
-pub use write::write_table;
 ghost use mathlib.Core.Path.{_≡_};
 ghost use Rattle.frames.specs.Frames.{frameAt};
 ghost use Rattle.frames.specs.Moved.{moved};
@@ -101,31 +91,6 @@ pub enum Expected {
 pub enum Written {
     Length(usize),
     Refused(Refusal),
-}
-
-// What a frame of a table's text leads to: what is expected next, or why the reading stops, and the line.
-pub enum Taken {
-    Next(Expected),
-    Stopped { refusal: Refusal, line: u32 },
-}
-
-// Where the text behind a table starts, and its line; or why no table was read, and the line.
-pub enum ReadTable {
-    Read { place: usize, line: u32 },
-    Refused { refusal: Refusal, line: u32 },
-}
-
-// How many nodes were read, where the text behind them starts, and its line; or why no tree was read, and the line.
-pub enum ReadTree {
-    Read {
-        count: usize,
-        place: usize,
-        line: u32,
-    },
-    Refused {
-        refusal: Refusal,
-        line: u32,
-    },
 }
 
 // A reader: the lent text, the place of the next line and its number.

@@ -25,11 +25,11 @@ use Rattle.lines.specs.Hex.{isHex, digitValue, digitsAt, numAt, hexOf, hexDigit
 use Rattle.lines.specs.Text.{lineAt, lineText}
 use Rattle.frames.specs.Frames.{dumpOf, headerOf, symbolOf, productionOf, equationOf, nodeOf, loadOf, replaceOf, kindOf, frameOf, frameAt}
 use Rattle.frames.specs.Walk.{seekFrom, nextOf}
-use Rattle.frames.specs.Written.{refusalOf}
-use Rattle.frames.specs.Read.{wordOf, constantOf, wordsAfter, takenAt}
+use Rattle.planting.specs.Written.{refusalOf}
+use Rattle.texts.specs.Read.{wordOf, constantOf, wordsAfter, takenAt}
 use Rattle.frames.specs.Out.{roundText, doneText, setText, dumpText, refusalText}
-use Rattle.frames.specs.Reading.{readOn, readingAt}
-use Rattle.frames.specs.Planting.{nodesAt}
+use Rattle.texts.specs.Reading.{readOn, readingAt}
+use Rattle.planting.specs.Planting.{nodesAt}
 use Rattle.session.specs.Session.{stepsTold, dumpTold, commandsFrom, ownMemory, session}
 use Rattle.session.specs.Example.{textA, printedA, SessionA, refusedText, refusedPrinted, SessionRefused, SessionEmpty}
 

@@ -15,9 +15,9 @@ use Rattle.climb.specs.Memory.{at}
 use Rattle.frames.specs.declared.Frame.{Frame}
 use Rattle.frames.specs.declared.Frame.the-variants.{Header, Symbol, Production, Equation, Node, Load, Replace, Dump, Refused, Over}
 use Rattle.frames.specs.Frames.{frameAt}
-use Rattle.frames.specs.Reading as table
-use Rattle.frames.specs.Reading.{Reading, readingAt}
-use Rattle.frames.specs.Planting.{Nodes, good, bad, nodesAt}
+use Rattle.texts.specs.Reading as table
+use Rattle.texts.specs.Reading.{Reading, readingAt}
+use Rattle.planting.specs.Planting.{Nodes, good, bad, nodesAt}
 use Rattle.frames.specs.Out.{roundText, doneText, Held, dumpText, refusalText}
 
 -- ---- what a command prints, and what it leaves

@@ -7,7 +7,7 @@ use Rattle.table.proofs.FirstLaws.{or-none}
 use Rattle.tree.specs.Refusals.{treeRefusal}
 use Rattle.tree.proofs.Handed.{judged}
 use Rattle.wire.specs.Turns.{Held}
-use Rattle.frames.proofs.Writing.{handed}
+use Rattle.planting.proofs.Writing.{handed}
 
 pub held : (t ns owns : List ℕ) → treeRefusal t ns owns ≡ 0 → Held t ns
 unfolding treeRefusal

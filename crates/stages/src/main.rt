@@ -4,14 +4,14 @@
 // `rank` its circles. What is printed: the count of nodes, or of circles once they are ranked, and what each array has in the middle, in hex of one width.
 ghost use Prim.Native.Nat.{_<_};
 ghost use Rattle.wire.specs.Turns.{Held};
-use circles::rank_circles;
-use frames::ReadTable;
-use frames::ReadTree;
-use frames::read_table;
-use frames::read_tree;
 use libc::STDIN_FILENO;
 use libc::STDOUT_FILENO;
+use planting::ReadTree;
+use planting::read_tree;
+use ranking::rank_circles;
 use refusal::Verdict;
+use texts::ReadTable;
+use texts::read_table;
 use tree::judge_tree;
 use tree::spans;
 use wire::wire_tree;

@@ -7,7 +7,7 @@ use native.Mathlib.Nat.{zero-add}
 use borrow.Author.Needs.{needs}
 use lib.ListN.{length, getD, set, take, drop, drop-of-length-le}
 use lib.Seq.{paste, paste-zero, length-paste, take-all}
-use Rattle.frames.proofs.Readings.{copy-next}
+use Rattle.texts.proofs.Readings.{copy-next}
 use Rattle.desk.proofs.copying.copy_in.Statement.{statement}
 use Rattle.desk.proofs.copying.copy_in.Tie as tie
 

@@ -9,10 +9,10 @@ use Rattle.refusal.specs.Numbers.{numberOf}
 use Rattle.refusal.specs.declared.Refusal.{Refusal}
 use Rattle.refusal.proofs.Distinct.{number-low, sound-zero, refused-number}
 use Rattle.frames.specs.Walk.{nextOf, isOn}
-use Rattle.frames.specs.Read.{Sofar}
+use Rattle.texts.specs.Read.{Sofar}
 use Rattle.frames.specs.declared.Expected.{Expected}
 use Rattle.frames.specs.declared.Expected.the-variants.{AtHeader}
-use Rattle.frames.proofs.Sofar.{awaits-so}
+use Rattle.texts.proofs.Sofar.{awaits-so}
 use Rattle.desk.specs.Desk.{Tests}
 use Rattle.desk.specs.Refusals.{frameRefusal, meets, walkRefusal, sofarRefusal}
 use Rattle.desk.proofs.Arriving.{meets-tests, walk-meets, walk-passes, walk-stops, walk-out, frame-none}

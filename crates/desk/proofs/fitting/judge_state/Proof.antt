@@ -16,10 +16,10 @@ use Rattle.update.specs.Refusals.{firstRefusal, stepRefusal}
 use Rattle.frames.specs.declared.Expected.{Expected}
 use Rattle.engine.specs.Lent.{lent}
 use Rattle.engine.proofs.Orders.{or-zero}
-use Rattle.session.specs.Owed.{Begun}
-use Rattle.session.specs.declared.Order.{Order}
-use Rattle.session.specs.declared.Mode.{Mode}
-use Rattle.session.specs.declared.Mode.the-variants.{Table, Command, Nodes, Working, Stopped}
+use Rattle.hearing.specs.Owed.{Begun}
+use Rattle.hearing.specs.declared.Order.{Order}
+use Rattle.hearing.specs.declared.Mode.{Mode}
+use Rattle.hearing.specs.declared.Mode.the-variants.{Table, Command, Nodes, Working, Stopped}
 use Rattle.desk.specs.Desk.{Tests}
 use Rattle.desk.specs.Refusals.{overrun, sofarRefusal, keptNumbers, modeRefusal, settledNumbers}
 use Rattle.desk.specs.declared.State.{State}

@@ -4,7 +4,7 @@ use mathlib.Core.Path.{_≡_, refl, sym, ap, _∙_}
 use Prim.Native.Nat.{ℕ, suc, _+_, _-_, _≤_, _<_}
 use Rattle.table.specs.Words.{childCount, defined}
 use Rattle.frames.specs.Walk.{seekFrom}
-use Rattle.frames.proofs.Order.{seek-goes, seek-stops, seek-ends}
+use Rattle.frames.proofs.Seeking.{seek-goes, seek-stops, seek-ends}
 use borrow.Author.Needs.{needs}
 use Rattle.frames.proofs.walk.seek.Statement.{statement}
 use Rattle.frames.proofs.walk.seek.Tie as tie

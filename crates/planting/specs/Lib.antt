@@ -1,0 +1,5 @@
+pub mod Text
+pub mod Written
+pub mod Planting
+pub mod Growing
+pub mod Laws

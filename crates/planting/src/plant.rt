@@ -1,0 +1,64 @@
+// The text of a tree, written into a lent buffer.
+use frames::Written;
+use refusal::Refusal;
+use refusal::Verdict;
+use tree::judge_tree;
+ghost use mathlib.Core.Path.{_≡_};
+ghost use Prim.Native.Nat.{_+_, _*_, _<_, _≤_, _^_};
+ghost use lib.ListN.{length};
+ghost use lib.Seq.{sets};
+ghost use Rattle.tree.specs.Refusals.{treeRefusal};
+ghost use Rattle.frames.specs.declared.Frame.the-variants.{Node, Load};
+ghost use Rattle.frames.specs.Text.{textOf};
+ghost use Rattle.planting.specs.Text.{treeText};
+ghost use Rattle.planting.specs.Written.{writtenOf, bufferAfter};
+
+fn wide(x: u8) -> u64
+    ensures { λ r. ⌜ (r ≡ x) × (r < 256) ⌝ }
+{
+    x as u64
+}
+
+// Writes the line of a node, and says where the next one goes.
+pub fn put_node(buffer: &mut [u8], place: usize, production: u8, own: u64) -> usize
+    requires { ⌜ place + 21 ≤ length (now buffer) ⌝ }
+    ensures { λ r. ⌜ (r ≡ place + 21) × (now (buffer .exit) ≡ sets (now (buffer .entry)) place (textOf (Node production own))) ⌝ }
+{
+    let head = 1280 + wide(production);
+    lines::put_line(buffer, place, 4, head, 16, own)
+}
+
+// Writes a tree's frame and its nodes, and says how long they are.
+fn put_tree(productions: &[u8], owns: &[u64], buffer: &mut [u8]) -> usize
+    requires { ⌜ (length (now productions) ≡ length (now owns)) × ((length (now productions) ≤ 512) × (7 + 21 * length (now productions) ≤ length (now buffer))) ⌝ }
+    ensures { λ r. ⌜ (r ≡ 7 + 21 * length (now (productions .entry))) × (now (buffer .exit) ≡ sets (now (buffer .entry)) 0 (treeText (now (productions .entry)) (now (owns .entry)))) ⌝ }
+{
+    let mut place = lines::put_line(buffer, 0, 2, 6, 4, productions.len() as u64);
+    let mut i: usize = 0;
+    while i < productions.len() {
+        place = put_node(buffer, place, productions[i], owns[i]);
+        i += 1;
+    }
+    place
+}
+
+// Writes a tree: 1 to 5, 8, 6 and 7, then 15, and nothing where it is refused.
+pub fn write_tree(
+    table: &[u64; 2657],
+    productions: &[u8],
+    owns: &[u64],
+    buffer: &mut [u8],
+) -> Written
+    ensures { λ r. ⌜ (r ≡ writtenOf (treeRefusal (now (table .entry)) (now (productions .entry)) (now (owns .entry))) (length (now (buffer .entry))) (treeText (now (productions .entry)) (now (owns .entry)))) × (now (buffer .exit) ≡ bufferAfter (treeRefusal (now (table .entry)) (now (productions .entry)) (now (owns .entry))) (now (buffer .entry)) (treeText (now (productions .entry)) (now (owns .entry)))) ⌝ }
+{
+    match judge_tree(table, productions, owns) {
+        Verdict::Sound => {
+            let n = 7 + 21 * productions.len();
+            if buffer.len() < n {
+                return Written::Refused(Refusal::Buffer);
+            }
+            Written::Length(put_tree(productions, owns, buffer))
+        }
+        Verdict::Refused(r) => Written::Refused(r),
+    }
+}

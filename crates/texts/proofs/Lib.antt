@@ -1,0 +1,13 @@
+pub mod Order
+pub mod Shown
+pub mod Writing
+pub mod Taking
+pub mod Sofar
+pub mod Readings
+pub mod Unique
+pub mod Kept
+pub mod Tables
+pub mod Walked
+pub mod Alike
+pub mod Afresh
+pub mod Reread

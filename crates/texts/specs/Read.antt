@@ -1,0 +1,139 @@
+-- Reading a table frame by frame: one step, and what holds between steps. Assumes nothing.
+use Prim.Native.Nat.{ℕ, zero, suc, _+_, _*_, _≤_, _<_}
+use mathlib.Core.Path.{_≡_}
+use mathlib.Core.Bool.{Bool, cond}
+use mathlib.Core.List.{List}
+use lib.Dec.{eqb}
+use lib.ListN.{set}
+use Rattle.table.specs.Words.{symbolCount, productionCount, childCount, defined, ruleOf}
+use Rattle.table.specs.Judge as table
+use Rattle.table.specs.Judge.{refusalAt, judgeTable}
+use Rattle.table.specs.Shape.{Symbols, Shaped}
+use Rattle.table.specs.Same.{Has}
+use Rattle.refusal.specs.declared.Refusal.the-variants as why
+use Rattle.frames.specs.Walk.{entryOf, nextOf}
+use Rattle.planting.specs.Written.{refusalOf}
+use Rattle.frames.specs.declared.Frame.{Frame}
+use Rattle.frames.specs.declared.Frame.the-variants.{Header, Symbol, Production, Equation, Node, Load, Replace, Dump, Refused, Over}
+use Rattle.frames.specs.declared.Expected.{Expected}
+use Rattle.frames.specs.declared.Expected.the-variants.{AtHeader, AtSymbol, AtProduction, AtEquation, Ended}
+use Rattle.texts.specs.declared.Taken.{Taken}
+use Rattle.texts.specs.declared.Taken.the-variants.{Next, Stopped}
+
+-- the type of a frame, 0 where it has none
+abbrev pub typeOf : Frame → ℕ
+typeOf (Header a b) = 1
+typeOf (Symbol a b) = 2
+typeOf (Production a b c) = 3
+typeOf (Equation a b c d) = 4
+typeOf (Node a b) = 5
+typeOf (Load a) = 6
+typeOf (Replace a b) = 7
+typeOf Dump = 8
+typeOf (Refused a b) = 0
+typeOf Over = 0
+
+-- the type that is expected; at the end none that a frame has
+abbrev pub typeAt : Expected → ℕ
+typeAt AtHeader = 1
+typeAt (AtSymbol s) = 2
+typeAt (AtProduction p) = 3
+typeAt (AtEquation p q k) = 4
+typeAt Ended = 9
+
+-- a frame's fields as one number, as the words of a table have them
+unfoldable pub wordOf : Frame → ℕ
+wordOf (Header symbols productions) = symbols * 256 + productions
+wordOf (Symbol synthesized inherited) = synthesized * 256 + inherited
+wordOf (Production left count cs) = ((((left * 256 + count) * 256 + cs .one) * 256 + cs .two) * 256 + cs .three) * 256 + cs .four
+wordOf (Equation op a b c) = (((op * 256 + a .position) * 256 + a .index) * 256 + b .position) * 256 + b .index
+wordOf (Node a b) = 0
+wordOf (Load a) = 0
+wordOf (Replace a b) = 0
+wordOf Dump = 0
+wordOf (Refused a b) = 0
+wordOf Over = 0
+
+-- and an equation's constant
+unfoldable pub constantOf : Frame → ℕ
+constantOf (Header a b) = 0
+constantOf (Symbol a b) = 0
+constantOf (Production a b c) = 0
+constantOf (Equation op a b c) = c
+constantOf (Node a b) = 0
+constantOf (Load a) = 0
+constantOf (Replace a b) = 0
+constantOf Dump = 0
+constantOf (Refused a b) = 0
+constantOf Over = 0
+
+-- the words with those of the expected frame stored
+abbrev pub store : List ℕ → Expected → ℕ → ℕ → List ℕ
+store t AtHeader w c = set t 0 w
+store t (AtSymbol s) w c = set t (1 + s) w
+store t (AtProduction p) w c = set t (33 + p) w
+store t (AtEquation p q k) w c = set (set t (97 + 2 * (20 * p + (4 * q + k))) w) (98 + 2 * (20 * p + (4 * q + k))) c
+store t Ended w c = t
+
+-- the words after a frame: those of a frame of the expected type are stored
+unfoldable pub wordsAfter : List ℕ → Expected → Frame → List ℕ
+wordsAfter t x f = cond (eqb (typeOf f) (typeAt x)) (store t x (wordOf f) (constantOf f)) t
+
+-- a frame that is not the expected one: its own refusal, or "14: [..] wrong place, or text ends inside a table or command"
+abbrev pub strangeAt : Frame → ℕ → Taken
+strangeAt (Header a b) line = Stopped why.Frame line
+strangeAt (Symbol a b) line = Stopped why.Frame line
+strangeAt (Production a b c) line = Stopped why.Frame line
+strangeAt (Equation a b c d) line = Stopped why.Frame line
+strangeAt (Node a b) line = Stopped why.Frame line
+strangeAt (Load a) line = Stopped why.Frame line
+strangeAt (Replace a b) line = Stopped why.Frame line
+strangeAt Dump line = Stopped why.Frame line
+strangeAt (Refused refusal own) line = Stopped refusal own
+strangeAt Over line = Stopped why.Frame line
+
+-- by the number of a frame: what comes next, or the refusal at its line
+abbrev pub judgedAt : ℕ → Expected → ℕ → Taken
+judgedAt zero next line = Next next
+judgedAt (suc n) next line = Stopped (refusalOf (suc n)) line
+
+-- "Tables are judged in frame order, at one frame by the lowest number"; 13 and 14 come before
+unfoldable pub takenAt : List ℕ → Expected → Frame → ℕ → Taken
+takenAt t x f line =
+    cond (eqb (typeOf f) (typeAt x)) (judgedAt (refusalAt (wordsAfter t x f) (entryOf x)) (nextOf (wordsAfter t x f) x) line) (strangeAt f line)
+
+-- what the words so far give to the judgement of the expected frame
+abbrev pub Awaits : List ℕ → Expected → Type 0
+Awaits t AtHeader = Unit {0}
+Awaits t (AtSymbol s) = s < 32
+Awaits t (AtProduction p) = (p < 64) × Symbols t
+Awaits t (AtEquation p q k) = (p < 64) × (Shaped t p × ((q ≤ childCount t p) × (k < 4)))
+Awaits t Ended = Unit {0}
+
+-- the header's and the symbols' frames are not refused
+pub record Top (t : List ℕ) : Type 0 where
+  pub header : refusalAt t table.header ≡ 0
+  pub symbols : (s : ℕ) → s < symbolCount t → refusalAt t (table.symbol s) ≡ 0
+
+-- nor are production p's and those of its equations
+pub record Part (t : List ℕ) (p : ℕ) : Type 0 where
+  pub production : refusalAt t (table.production p) ≡ 0
+  pub equations : (q k : ℕ) → q ≤ childCount t p → k < defined t p q → refusalAt t (table.equation p q k) ≡ 0
+
+-- nor are production p's and those of its equations before equation k of position q
+pub record Within (t : List ℕ) (p q k : ℕ) : Type 0 where
+  pub production : refusalAt t (table.production p) ≡ 0
+  pub positions : (j l : ℕ) → j < q → j ≤ childCount t p → l < defined t p j → refusalAt t (table.equation p j l) ≡ 0
+  pub sets : (l : ℕ) → l < k → l < defined t p q → refusalAt t (table.equation p q l) ≡ 0
+
+-- between two frames: the expected one is one of the table, and no frame before it is refused
+abbrev pub Sofar : List ℕ → Expected → Type 0
+Sofar t AtHeader = Unit {0}
+Sofar t (AtSymbol s) = (s < symbolCount t) × ((refusalAt t table.header ≡ 0) × ((i : ℕ) → i < s → refusalAt t (table.symbol i) ≡ 0))
+Sofar t (AtProduction p) = (p < productionCount t) × (Top t × ((i : ℕ) → i < p → Part t i))
+Sofar t (AtEquation p q k) = Has t p q k × (Top t × (((i : ℕ) → i < p → Part t i) × Within t p q k))
+Sofar t Ended = judgeTable t ≡ 0
+
+-- a frame that is taken leaves words of which that holds again; so what is read to its end is a sound table
+abbrev pub Goes : Type 0
+Goes = (t : List ℕ) (x : Expected) (f : Frame) (line : ℕ) (y : Expected) → Sofar t x → takenAt t x f line ≡ Next y → Sofar (wordsAfter t x f) y
