@@ -1,10 +1,10 @@
 // A session from one file descriptor to another: a thin loop over `feed`, in fixed memory. A failed read ends the input; a failed write ends the session.
+use desk::State;
+use desk::finish;
+use desk::start;
 use frames::Written;
 use pieces::Fed;
-use pieces::State;
 use pieces::feed;
-use pieces::finish;
-use pieces::start;
 ghost use Rattle.io.specs.Counts.{Counts};
 
 // Behind a call: the state, how far the piece was taken, whether more of it is to be done, and whether the session goes on.

@@ -9,10 +9,6 @@ pub mod Reach
 pub mod Least
 pub mod Holding
 pub mod Lowering
-pub mod Words
-pub mod Cursors
-pub mod Taking
-pub mod Laying
 pub mod Ranking
 pub mod Listing
 pub mod Sequence

@@ -1,11 +1,17 @@
 -- What the labelling of circles says as it goes. Assumes nothing.
 use Prim.Native.Nat.{ℕ, _+_, _-_, _<_, _≤_}
 use mathlib.Core.Path.{_≡_}
+use mathlib.Core.Bool.{Bool, true, false}
 use mathlib.Core.List.{List}
 use mathlib.Core.Logic.{_⊎_}
 use lib.ListN.{getD, length, drop}
 use Rattle.circles.specs.Graph.{Path⁺}
 use Rattle.circles.specs.Search.{Arg, Next, placeOf}
+
+-- a Bool says whether P holds
+pub record Says (P : Type 0) (r : Bool) : Type 0 where
+  pub if-true : r ≡ true → P
+  pub if-false : r ≡ false → P → ⊥
 
 -- x and y get to each other by arguments
 abbrev pub Round : ℕ → List ℕ → List ℕ → ℕ → ℕ → Type 0

@@ -4,5 +4,4 @@ pub mod Arrays
 pub mod Example
 pub mod Search
 pub mod Labels
-pub mod Turns
 pub mod Laws

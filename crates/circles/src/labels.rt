@@ -3,8 +3,7 @@ ghost use Prim.Native.Nat.{ℕ, _+_, _*_, _<_, _≤_};
 ghost use lib.ListN.{getD, length};
 ghost use Rattle.circles.specs.Arrays.{Given, graphOf, over};
 ghost use Rattle.circles.specs.Ranked.{labelsOf};
-ghost use Rattle.circles.specs.Labels.{Reps, Stale, Took, Left, Unlabelled, Seeded, LowOf, Lowered, Kin};
-ghost use Rattle.circles.specs.Turns.{Says};
+ghost use Rattle.circles.specs.Labels.{Says, Reps, Stale, Took, Left, Unlabelled, Seeded, LowOf, Lowered, Kin};
 ghost use Rattle.circles.specs.Search.{Arg, argOf, placeOf, stamped, Visited, Clean, Found, Lone, Linked, Chained, Swept, Blank, Room, Back};
 use crate::order::leaving_order;
 

@@ -1,6 +1,6 @@
 // Step and run: the rounds of an open update.
-use circles::rank_circles;
 use judging::judge_step;
+use ranking::rank_circles;
 use refusal::Verdict;
 use steps::Advanced;
 use steps::Stepped;

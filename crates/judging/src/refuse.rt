@@ -1,8 +1,8 @@
 // The refusals of the calls, in document 01's order.
 use crate::trees::wide;
+use checking::judge_table;
 use refusal::Refusal;
 use refusal::Verdict;
-use table::judge_table;
 use table::left_of;
 use tree::judge_held;
 use tree::judge_nodes;

@@ -21,14 +21,14 @@ use Rattle.texts.specs.Read.{wordsAfter, takenAt}
 use Rattle.texts.proofs.Readings.{words-length}
 use Rattle.engine.specs.Order.{Holding}
 use Rattle.session.specs.Session.{dumpTold}
-use Rattle.session.specs.Owed.{Sound, orderCall}
-use Rattle.session.specs.Hearing.{Heard, stopped, strange, waiting, openedBy, called, ordered, commanded, tabled, noded, keptAt, modeOf, hearing}
-use Rattle.session.specs.declared.Order.{Order}
-use Rattle.session.specs.declared.Order.the-variants.{Load, Replace}
-use Rattle.session.specs.declared.Mode.{Mode}
-use Rattle.session.specs.declared.Mode.the-variants.{Table, Command, Nodes, Working, Stopped}
-use Rattle.session.proofs.Heard.{refusal-length}
-use Rattle.session.proofs.Dumps.{dump-busy, dump-absent, dump-sets, told-most}
+use Rattle.hearing.specs.Owed.{Sound, orderCall}
+use Rattle.hearing.specs.Hearing.{Heard, stopped, strange, waiting, openedBy, called, ordered, commanded, tabled, noded, keptAt, modeOf, hearing}
+use Rattle.hearing.specs.declared.Order.{Order}
+use Rattle.hearing.specs.declared.Order.the-variants.{Load, Replace}
+use Rattle.hearing.specs.declared.Mode.{Mode}
+use Rattle.hearing.specs.declared.Mode.the-variants.{Table, Command, Nodes, Working, Stopped}
+use Rattle.hearing.proofs.Heard.{refusal-length}
+use Rattle.hearing.proofs.Dumps.{dump-busy, dump-absent, dump-sets, told-most}
 
 -- n words, and no more bytes than a dump of 4,096 sets
 pub record Modest (n : ℕ) (h : Heard) : Type 0 where

@@ -6,12 +6,14 @@ use Prim.Native.Nat.{ℕ, zero, suc, _+_, _≤_, _<_}
 use native.Mathlib.Omega.{arith}
 use lib.ListN.{length, take, drop, length-take, replicate, drop-of-length-le}
 use Rattle.session.specs.Session.{session, ownMemory}
-use Rattle.session.specs.Owed.{owed}
-use Rattle.session.specs.Laws.{listens, endText}
-use Rattle.session.specs.declared.Mode.{Mode}
-use Rattle.session.specs.declared.Mode.the-variants.{Table, Command, Nodes, Working, Stopped}
-use Rattle.session.proofs.Ending.{end-pays, all-owed}
-use Rattle.pieces.specs.Feeding.{Desk, Fits, Feeds, tableOf, lineOf, owedFor, lastText}
+use Rattle.hearing.specs.Owed.{owed}
+use Rattle.hearing.specs.Laws.{listens, endText}
+use Rattle.hearing.specs.declared.Mode.{Mode}
+use Rattle.hearing.specs.declared.Mode.the-variants.{Table, Command, Nodes, Working, Stopped}
+use Rattle.hearing.proofs.Ending.{end-pays, all-owed}
+use Rattle.desk.specs.Desk.{Desk, Fits, tableOf, lineOf, owedFor}
+use Rattle.desk.specs.Ending.{lastText}
+use Rattle.pieces.specs.Feeding.{Feeds}
 use Rattle.pieces.specs.Laws.{Starts, Piece, last, more, Pieces, ends, next, joined, HoweverCut}
 
 -- a desk between two pieces

@@ -16,18 +16,19 @@ use Rattle.frames.specs.Frames.{frameAt, lineAfter}
 use Rattle.frames.specs.declared.Frame.{Frame}
 use Rattle.session.specs.Session as session
 use Rattle.session.specs.Session.{stepsTold, before, commandsFrom}
-use Rattle.session.specs.Owed.{owed, onward, Sound}
-use Rattle.session.specs.Hearing.{Heard, hearing, Hears, Spacious}
-use Rattle.session.specs.Telling.{RoundsTold, Rests, ended, full}
-use Rattle.session.specs.Laws.{listens, Pays}
-use Rattle.session.specs.declared.Mode.{Mode}
-use Rattle.session.specs.declared.Mode.the-variants.{Table, Command, Nodes, Working, Stopped}
-use Rattle.session.specs.declared.Told.{Told}
-use Rattle.session.proofs.Mode as M
-use Rattle.session.proofs.Owing.{line-pays}
-use Rattle.pieces.specs.declared.State.{State}
-use Rattle.pieces.specs.Feeding.{Desk, desk, tableOf, lineOf, owedFor, Wide, Fits, Settled, Feeds}
-use Rattle.pieces.specs.Gathering.{Gathers}
+use Rattle.hearing.specs.Owed.{owed, onward, Sound}
+use Rattle.hearing.specs.Hearing.{Heard, hearing, Hears, Spacious}
+use Rattle.hearing.specs.Telling.{RoundsTold, Rests, ended, full}
+use Rattle.hearing.specs.Laws.{listens, Pays}
+use Rattle.hearing.specs.declared.Mode.{Mode}
+use Rattle.hearing.specs.declared.Mode.the-variants.{Table, Command, Nodes, Working, Stopped}
+use Rattle.hearing.specs.declared.Told.{Told}
+use Rattle.hearing.proofs.Mode as M
+use Rattle.hearing.proofs.Owing.{line-pays}
+use Rattle.desk.specs.declared.State.{State}
+use Rattle.desk.specs.Desk.{Desk, desk, tableOf, lineOf, owedFor, Wide, Fits, Settled}
+use Rattle.pieces.specs.Feeding.{Feeds}
+use Rattle.desk.specs.Gathering.{Gathers}
 use Rattle.pieces.proofs.Bounds.{Modest, heard-modest}
 use Rattle.pieces.specs.Faring.{Ready, Sized, Fares, atWork, toDo, Turns}
 

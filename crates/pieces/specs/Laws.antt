@@ -5,10 +5,12 @@ use mathlib.Core.List.{List, [], _∷_, _++_}
 use Prim.Native.Nat.{ℕ, _≤_}
 use lib.ListN.{length, replicate}
 use Rattle.session.specs.Session.{session, ownMemory}
-use Rattle.session.specs.declared.Mode.{Mode}
-use Rattle.session.specs.declared.Mode.the-variants.{Table}
+use Rattle.hearing.specs.declared.Mode.{Mode}
+use Rattle.hearing.specs.declared.Mode.the-variants.{Table}
 use Rattle.frames.specs.declared.Expected.the-variants.{AtHeader}
-use Rattle.pieces.specs.Feeding.{Desk, Fits, Feeds, tableOf, lineOf, lastText}
+use Rattle.desk.specs.Desk.{Desk, Fits, tableOf, lineOf}
+use Rattle.desk.specs.Ending.{lastText}
+use Rattle.pieces.specs.Feeding.{Feeds}
 
 -- a session that has read nothing
 pub record Starts (d : Desk) (out : List ℕ) : Type 0 where

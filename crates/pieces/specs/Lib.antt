@@ -1,5 +1,3 @@
-pub mod Ending
 pub mod Faring
 pub mod Feeding
-pub mod Gathering
 pub mod Laws

@@ -1,10 +1,10 @@
 // A tree read from text.
 use crate::ReadTree;
+use checking::judge_table;
 use frames::Frame;
 use frames::next_at;
 use refusal::Refusal;
 use refusal::Verdict;
-use table::judge_table;
 use tree::judge_held;
 ghost use mathlib.Core.Path.{_≡_};
 ghost use Prim.Native.Nat.{_≤_};

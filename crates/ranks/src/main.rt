@@ -10,7 +10,7 @@ ghost use lib.ListN.{length};
 ghost use Rattle.circles.specs.Arrays.{Given, graphOf};
 ghost use Rattle.circles.specs.Graph.{Closed};
 ghost use Rattle.circles.specs.Ranked.{ranked};
-ghost use Rattle.circles.specs.Turns.{Says};
+ghost use Rattle.circles.specs.Labels.{Says};
 ghost use Rattle.ranks.specs.Slots.{Stands, Sure};
 use libc::STDIN_FILENO;
 use libc::STDOUT_FILENO;
@@ -128,7 +128,7 @@ fn counted(n: usize, a: &[u16; 4096], b: &[u16; 4096], rank: bool) -> Found
     let mut ends = [0u16; 4097];
     let middle = n / 2;
     if rank {
-        let count = circles::rank_circles(n, a, b, &mut label, &mut members, &mut ends);
+        let count = ranking::rank_circles(n, a, b, &mut label, &mut members, &mut ends);
         return Found {
             count: count,
             member: member_at(&members, middle),

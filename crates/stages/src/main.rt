@@ -4,11 +4,11 @@
 // `rank` its circles. What is printed: the count of nodes, or of circles once they are ranked, and what each array has in the middle, in hex of one width.
 ghost use Prim.Native.Nat.{_<_};
 ghost use Rattle.wire.specs.Turns.{Held};
-use circles::rank_circles;
 use libc::STDIN_FILENO;
 use libc::STDOUT_FILENO;
 use planting::ReadTree;
 use planting::read_tree;
+use ranking::rank_circles;
 use refusal::Verdict;
 use texts::ReadTable;
 use texts::read_table;

@@ -23,7 +23,7 @@ use Rattle.update.specs.Records.{shut}
 use Rattle.update.specs.Within.{WithinLimits}
 use Rattle.update.specs.Steps.{Outcome, round, done, roundNumber, roundRecord, roundMade, doneMade, dueFrom, stepOf, Ran, runOf}
 use Rattle.update.specs.Calls.{Said, refused, said, answerSays}
-use Rattle.steps.specs.Arranged.{Lent}
+use Rattle.rounds.specs.Arranged.{Lent}
 use Rattle.steps.specs.Says.{StepSays, RunSays}
 
 -- ---- an answer that is no refusal

@@ -16,10 +16,11 @@ use Rattle.update.specs.declared.Answer.{Answer}
 use Rattle.update.specs.declared.Answer.the-variants.{Round, Done}
 use Rattle.update.specs.Records.{shut}
 use Rattle.update.specs.Steps.{changedOf, roundNumber, roundRecord, roundMade, doneMade, dueFrom, stepOf}
-use Rattle.steps.specs.Arranged.{Arranged, Lent, Looks}
-use Rattle.steps.specs.Tests.{reading}
-use Rattle.steps.specs.Says.{RoundSays, StepSays}
-use Rattle.steps.proofs.Looking.{Place}
+use Rattle.rounds.specs.Arranged.{Arranged, Lent, Looks}
+use Rattle.rounds.specs.Tests.{reading}
+use Rattle.rounds.specs.Says.{RoundSays}
+use Rattle.steps.specs.Says.{StepSays}
+use Rattle.rounds.proofs.Looking.{Place}
 
 -- ---- the two outcomes
 

@@ -12,7 +12,7 @@ use Rattle.circles.specs.Arrays.{graphOf, joined, endsFrom, over}
 use Rattle.circles.specs.Ranked.{upFrom, slots, reachings, labelIn, labelsBy, labelsOf, labelAt}
 use Rattle.climb.specs.Circuit.{circleAt}
 use Rattle.climb.proofs.Places.{default-is}
-use Rattle.steps.specs.Arranged.{Arranged, circlesIn, Listed, LaidArranged}
+use Rattle.rounds.specs.Arranged.{Arranged, circlesIn, Listed, LaidArranged}
 
 -- ---- the ends
 

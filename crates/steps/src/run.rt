@@ -8,7 +8,7 @@ ghost use Rattle.climb.specs.Wired.{wired, Wiring};
 ghost use Rattle.update.specs.declared.Run.the-variants.{Finished};
 ghost use Rattle.update.specs.Within.{WithinLimits};
 ghost use Rattle.update.specs.Steps.{runOf};
-ghost use Rattle.steps.specs.Arranged.{circlesIn, Circles, Lent};
+ghost use Rattle.rounds.specs.Arranged.{circlesIn, Circles, Lent};
 ghost use Rattle.steps.specs.Says.{RunSays};
 
 pub struct Advanced {

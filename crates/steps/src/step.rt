@@ -1,10 +1,10 @@
 // One step of an update.
-use super::changed::changed;
-use super::due::first_due;
-use super::due::wide;
-use super::numbers::next_record;
-use super::numbers::round_number;
-use super::rounds::round_at;
+use rounds::changed;
+use rounds::first_due;
+use rounds::next_record;
+use rounds::round_at;
+use rounds::round_number;
+use rounds::wide;
 use update::Answer;
 use update::Open;
 use update::Record;
@@ -14,8 +14,8 @@ ghost use lib.Seq.{slice};
 ghost use Rattle.climb.specs.Wired.{wired, Rows, Wiring};
 ghost use Rattle.update.specs.Within.{WithinLimits};
 ghost use Rattle.update.specs.Steps.{roundNumber, roundMade, doneMade, stepOf};
-ghost use Rattle.steps.specs.Arranged.{circlesIn, Circles, Lent};
-ghost use Rattle.steps.specs.Tests.{reading};
+ghost use Rattle.rounds.specs.Arranged.{circlesIn, Circles, Lent};
+ghost use Rattle.rounds.specs.Tests.{reading};
 ghost use Rattle.steps.specs.Says.{StepSays};
 
 pub struct Stepped {

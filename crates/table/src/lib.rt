@@ -1,15 +1,8 @@
-// Rule tables: what their words say, and whether they are sound.
+// Rule tables: what their words say.
 mod equations;
-mod form;
-mod judge;
 mod words;
 
 pub use equations::equation_at;
-pub use judge::judge_equation;
-pub use judge::judge_header;
-pub use judge::judge_production;
-pub use judge::judge_symbol;
-pub use judge::judge_table;
 pub use words::child_count;
 pub use words::child_of;
 pub use words::constant_at;
@@ -18,6 +11,7 @@ pub use words::has_set;
 pub use words::head_at;
 pub use words::inherited_of;
 pub use words::left_of;
+pub use words::number;
 pub use words::occurs_at;
 pub use words::production_count;
 pub use words::symbol_at;

@@ -1,14 +1,14 @@
 // Reading a table: one frame at a time, each judged as it comes.
 use crate::Taken;
+use checking::judge_equation;
+use checking::judge_header;
+use checking::judge_production;
+use checking::judge_symbol;
 use frames::Expected;
 use frames::Frame;
 use frames::next_of;
 use refusal::Refusal;
 use refusal::Verdict;
-use table::judge_equation;
-use table::judge_header;
-use table::judge_production;
-use table::judge_symbol;
 ghost use mathlib.Core.Path.{_≡_};
 ghost use Prim.Native.Nat.{_+_, _*_, _<_, _≤_};
 ghost use lib.ListN.{length};

@@ -1,4 +1,5 @@
 // The text of a table, written into a lent buffer.
+use checking::judge_table;
 use frames::Expected;
 use frames::Written;
 use frames::next_of;
@@ -7,7 +8,6 @@ use refusal::Verdict;
 use table::child_count;
 use table::constant_at;
 use table::head_at;
-use table::judge_table;
 ghost use mathlib.Core.Path.{_≡_};
 ghost use mathlib.Core.Bool.{_&&_};
 ghost use Prim.Native.Nat.{_+_, _*_, _<_, _≤_};

@@ -1,9 +1,9 @@
 // Trees in preorder: the judgement 6 and 7, and where each subtree ends.
+use checking::judge_table;
 use refusal::Refusal;
 use refusal::Verdict;
 use table::child_count;
 use table::child_of;
-use table::judge_table;
 use table::left_of;
 use table::production_count;
 ghost use mathlib.Core.Path.{_≡_};

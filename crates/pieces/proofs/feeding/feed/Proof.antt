@@ -1,6 +1,6 @@
 -- Refused exactly where the memory is no session's; else the turns run on a copy of the table, which is copied back. Assumes nothing.
 use Rattle.pieces.proofs.Faring.{settled-of, fits-of, ready-of, copied-back}
-use Rattle.pieces.proofs.Deciding.{tested-not, refused-not}
+use Rattle.desk.proofs.Deciding.{tested-not, refused-not}
 use Rattle.pieces.specs.Feeding.{takes, refuses}
 use Rattle.update.specs.Memories.{Memory}
 use Rattle.engine.specs.Lent.{lent}

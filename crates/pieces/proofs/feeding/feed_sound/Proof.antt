@@ -1,8 +1,8 @@
 -- The invariant: what was owed at first is what has been printed and what is owed now. What is left to do falls. Assumes nothing.
 use Rattle.pieces.proofs.Faring.{fares-none, fares-on, sized-none, sized-on, fares-out, fed-all, fed-full}
-use Rattle.pieces.proofs.Deciding.{tested-not}
+use Rattle.desk.proofs.Deciding.{tested-not}
 use Rattle.pieces.specs.Faring.{Fares, Sized, toDo}
-use Rattle.pieces.specs.Feeding.{desk}
+use Rattle.desk.specs.Desk.{desk}
 use Rattle.engine.specs.Lent.{lent}
 use borrow.Author.Tests.{not-true, not-false}
 use native.Mathlib.Omega.{arith}

@@ -1,6 +1,6 @@
 -- Two tests, so that nothing wraps. Assumes nothing.
 use native.Mathlib.Omega.{arith}
-use Rattle.pieces.proofs.Deciding.{tests-yes, tests-no}
+use Rattle.desk.proofs.Deciding.{tests-yes, tests-no}
 use Rattle.pieces.proofs.feeding.has_room.Statement.{statement}
 use Rattle.pieces.proofs.feeding.has_room.Tie as tie
 

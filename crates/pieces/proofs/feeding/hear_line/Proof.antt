@@ -1,6 +1,6 @@
 -- The frame is that of the first bytes of the window. Assumes nothing.
-use Rattle.session.proofs.Heard.{as-well}
-use Rattle.session.specs.Hearing.{hearing}
+use Rattle.hearing.proofs.Heard.{as-well}
+use Rattle.hearing.specs.Hearing.{hearing}
 use Rattle.engine.specs.Lent.{lent}
 use Rattle.frames.specs.declared.Step.{Step}
 use lib.Seq.{length-take-le}

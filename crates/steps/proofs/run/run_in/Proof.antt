@@ -8,7 +8,7 @@ use lib.ListN.{length}
 use Rattle.climb.specs.System.{System}
 use Rattle.climb.specs.Wired.{wired}
 use Rattle.update.specs.Within.{WithinLimits}
-use Rattle.steps.specs.Arranged.{circlesIn}
+use Rattle.rounds.specs.Arranged.{circlesIn}
 use Rattle.steps.proofs.Continuing.{Left, left-all, left-on, left-done, left-over, step-within, lent-kept}
 use borrow.Author.Needs.{needs}
 use Rattle.steps.proofs.run.run_in.Statement.{statement}

@@ -5,8 +5,8 @@ use native.Mathlib.Nat.{le-trans}
 use lib.ListN.{length}
 use lib.Seq.{slice}
 use Rattle.climb.specs.Circuit.{circleAt}
-use Rattle.steps.specs.Arranged.{circlesIn}
-use Rattle.steps.proofs.Looking.{Place, place}
+use Rattle.rounds.specs.Arranged.{circlesIn}
+use Rattle.rounds.proofs.Looking.{Place, place}
 use Rattle.steps.proofs.Making.{step-over, step-one, looks-of, place-rows}
 use borrow.Author.Needs.{needs}
 use Rattle.steps.proofs.step.step_in.Statement.{statement}

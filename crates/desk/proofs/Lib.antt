@@ -1,0 +1,5 @@
+pub mod Arriving
+pub mod Deciding
+pub mod Meaning
+pub mod Refusing
+pub mod Walking

@@ -1,0 +1,20 @@
+-- Bytes of a piece behind those of a begun line, as many as decide it: "a line is 2 to 28 digits [..] ended by LF", so 29 bytes at the most. Assumes nothing.
+use mathlib.Core.Path.{_≡_}
+use mathlib.Core.Bool.{Bool, true, false}
+use mathlib.Core.List.{List, _++_}
+use Prim.Native.Nat.{ℕ, _+_, _-_, _≤_, _<_}
+use lib.ListN.{length, take, drop}
+use Rattle.hearing.specs.Owed.{Begun, Whole}
+
+-- n bytes of the line have come then, and the piece is taken up to `place`
+pub record Gathers (piece : List ℕ) (from : ℕ) (window : List ℕ) (begun n place : ℕ) (whole : Bool) (window′ : List ℕ) : Type 0 where
+  pub onward : from ≤ place
+  pub count : n ≡ begun + (place - from)
+  -- they stand behind the others, and nothing else of the window is changed
+  pub taken : take n window′ ≡ take begun window ++ take (place - from) (drop from piece)
+  pub rest : drop n window′ ≡ drop n window
+  -- the line is decided, by a byte of the piece at the latest, or the piece is used up
+  pub decided : whole ≡ true → Whole (take n window′)
+  pub moved : whole ≡ true → (from < place) × (place ≤ length piece)
+  pub waits : whole ≡ false → Begun (take n window′)
+  pub used : whole ≡ false → length piece ≤ place

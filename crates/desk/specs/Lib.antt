@@ -1,0 +1,5 @@
+pub mod Desk
+pub mod Ending
+pub mod Gathering
+pub mod Refusals
+pub mod Refused

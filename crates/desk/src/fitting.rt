@@ -1,0 +1,221 @@
+// Whether the memory lent can be a session's: a public call takes any.
+use crate::State;
+use checking::judge_equation;
+use checking::judge_header;
+use checking::judge_production;
+use checking::judge_symbol;
+use frames::Expected;
+use frames::next_of;
+use hearing::Mode;
+use judging::judge_ground;
+use judging::judge_holding;
+use judging::judge_step;
+use refusal::Refusal;
+use refusal::Verdict;
+use update::Record;
+ghost use mathlib.Core.Path.{_≡_};
+ghost use mathlib.Core.Bool.{true, not};
+ghost use Prim.Native.Nat.{_≤_};
+ghost use lib.ListN.{length, take};
+ghost use Rattle.refusal.specs.Numbers.{verdictOf};
+ghost use Rattle.update.specs.Refusals.{firstRefusal};
+ghost use Rattle.frames.specs.Walk.{isOn};
+ghost use Rattle.texts.specs.Read.{Awaits};
+ghost use Rattle.engine.specs.Lent.{lent};
+ghost use Rattle.hearing.specs.Owed.{Begun};
+ghost use Rattle.desk.specs.Desk.{Wide, Tests};
+ghost use Rattle.desk.specs.Refusals.{frameRefusal, sofarRefusal, keptNumbers, settledNumbers};
+
+// A buffer is shorter than a line, a command's nodes, a table, the engine or what a line can print asks for.
+pub fn is_narrow(
+    words: &[u64],
+    window: &[u8],
+    parts: &[u8],
+    part_owns: &[u64],
+    held: &[u8],
+    held_owns: &[u64],
+    sets: &[u64],
+    before: &[u64],
+    out: &[u8],
+) -> bool
+    ensures { λ r. ⌜ Tests (not r) (Wide (now (words .entry)) (now (window .entry)) (now (parts .entry)) (now («part_owns» .entry)) (lent (now (held .entry)) (now («held_owns» .entry)) (now (sets .entry)) (now (before .entry))) (now (out .entry))) ⌝ }
+{
+    if words.len() < 2657 {
+        return true;
+    }
+    if window.len() < 29 {
+        return true;
+    }
+    if parts.len() < 513 {
+        return true;
+    }
+    if part_owns.len() < 513 {
+        return true;
+    }
+    if held.len() < 512 {
+        return true;
+    }
+    if held_owns.len() < 512 {
+        return true;
+    }
+    if sets.len() < 4096 {
+        return true;
+    }
+    if before.len() < 4096 {
+        return true;
+    }
+    out.len() < 131_072
+}
+
+// Whether the begun line has room and no end yet.
+pub fn is_begun(window: &[u8], begun: usize) -> bool
+    requires { ⌜ 29 ≤ length (now window) ⌝ }
+    ensures { λ r. ⌜ Tests r ((begun ≤ 28) × Begun (take begun (now (window .entry)))) ⌝ }
+{
+    if 28 < begun {
+        return false;
+    }
+    let mut i: usize = 0;
+    while i < begun {
+        if window[i] == 10 {
+            return false;
+        }
+        i += 1;
+    }
+    true
+}
+
+// The same frame of a table is expected.
+fn is_same(a: Expected, b: Expected) -> bool
+    ensures { λ r. ⌜ Tests r ((a ≡ b) × (isOn a ≡ true)) ⌝ }
+{
+    match a {
+        Expected::AtHeader => {
+            if let Expected::AtHeader = b {
+                return true;
+            }
+            false
+        }
+        Expected::AtSymbol(s) => {
+            if let Expected::AtSymbol(s2) = b {
+                return s == s2;
+            }
+            false
+        }
+        Expected::AtProduction(p) => {
+            if let Expected::AtProduction(p2) = b {
+                return p == p2;
+            }
+            false
+        }
+        Expected::AtEquation(p, q, k) => {
+            if let Expected::AtEquation(p2, q2, k2) = b {
+                if p != p2 {
+                    return false;
+                }
+                if q != q2 {
+                    return false;
+                }
+                return k == k2;
+            }
+            false
+        }
+        Expected::Ended => false,
+    }
+}
+
+// The judgement of one frame of a table.
+fn judge_at(table: &[u64; 2657], expected: Expected) -> Verdict
+    requires { ⌜ Awaits (now table) expected ⌝ }
+    ensures { λ r. ⌜ verdictOf r ≡ frameRefusal (now (table .entry)) expected ⌝ }
+{
+    match expected {
+        Expected::AtHeader => judge_header(table),
+        Expected::AtSymbol(s) => judge_symbol(table, s),
+        Expected::AtProduction(p) => judge_production(table, p),
+        Expected::AtEquation(p, q, k) => judge_equation(table, p, q, k),
+        Expected::Ended => Verdict::Refused(Refusal::Fields),
+    }
+}
+
+// The frames of a table before the one that is expected: 1 to 5 at the first that is refused, 11 where no walk comes to it.
+fn judge_so_far(table: &[u64; 2657], expected: Expected) -> Verdict
+    ensures { λ r. ⌜ verdictOf r ≡ sofarRefusal (now (table .entry)) expected ⌝ }
+{
+    let mut x = Expected::AtHeader;
+    let mut still: usize = 2657;
+    while 0 < still {
+        if is_same(x, expected) {
+            return Verdict::Sound;
+        }
+        match judge_at(table, x) {
+            Verdict::Sound => {
+                x = next_of(table, x);
+                still -= 1;
+            }
+            Verdict::Refused(r) => {
+                return Verdict::Refused(r);
+            }
+        }
+    }
+    Verdict::Refused(Refusal::Fields)
+}
+
+// The held tree, if there is one.
+fn judge_kept(
+    table: &[u64; 2657],
+    record: Record,
+    held: &[u8],
+    held_owns: &[u64],
+    sets: &[u64],
+    before: &[u64],
+) -> Verdict
+    ensures { λ r. ⌜ verdictOf r ≡ firstRefusal (keptNumbers (now (table .entry)) (lent (now (held .entry)) (now («held_owns» .entry)) (now (sets .entry)) (now (before .entry))) «record») ⌝ }
+{
+    match judge_ground(table, record, held, held_owns, sets, before) {
+        Verdict::Sound => {
+            if record.held {
+                return judge_holding(table, record, held, held_owns);
+            }
+            Verdict::Sound
+        }
+        Verdict::Refused(r) => Verdict::Refused(r),
+    }
+}
+
+// By what is waited for.
+pub fn judge_state(
+    table: &[u64; 2657],
+    state: State,
+    window: &[u8],
+    held: &[u8],
+    held_owns: &[u64],
+    sets: &[u64],
+    before: &[u64],
+) -> Verdict
+    requires { ⌜ 29 ≤ length (now window) ⌝ }
+    ensures { λ r. ⌜ verdictOf r ≡ firstRefusal (settledNumbers state (now (table .entry)) (now (window .entry)) (lent (now (held .entry)) (now («held_owns» .entry)) (now (sets .entry)) (now (before .entry)))) ⌝ }
+{
+    if !is_begun(window, state.begun) {
+        return Verdict::Refused(Refusal::Fields);
+    }
+    let record = state.record;
+    let mode = state.mode;
+    match mode {
+        Mode::Table(expected) => judge_so_far(table, expected),
+        Mode::Command => judge_kept(table, record, held, held_owns, sets, before),
+        Mode::Nodes {
+            order,
+            count,
+            taken,
+            line,
+        } => {
+            if count <= taken {
+                return Verdict::Refused(Refusal::Fields);
+            }
+            judge_kept(table, record, held, held_owns, sets, before)
+        }
+        Mode::Working { turns } => judge_step(table, record, held, held_owns, sets, before),
+        Mode::Stopped => Verdict::Sound,
+    }
+}

@@ -1,0 +1,41 @@
+// What a session is between two pieces of its text: a state by value, and lent memory that is judged before it is used.
+mod copying;
+mod ending;
+mod fitting;
+mod gathering;
+
+pub use copying::copy_in;
+pub use copying::copy_out;
+pub use ending::finish;
+pub use ending::is_stopped;
+pub use fitting::is_narrow;
+pub use fitting::judge_state;
+use frames::Expected;
+pub use gathering::Gathered;
+pub use gathering::gather;
+pub use gathering::line_after;
+use hearing::Mode;
+use update::Record;
+ghost use mathlib.Core.Path.{_≡_};
+ghost use Rattle.desk.specs.Desk.{firstState};
+
+// Between two pieces: the mode, how many bytes of a line have come, the number of that line, and the update record.
+pub struct State {
+    pub mode: Mode,
+    pub begun: usize,
+    pub line: u32,
+    pub record: Record,
+}
+
+// A session that has read nothing.
+pub fn start() -> State
+    ensures { λ r. ⌜ r ≡ firstState ⌝ }
+{
+    let record = Record::empty();
+    State {
+        mode: Mode::Table(Expected::AtHeader),
+        begun: 0,
+        line: 1,
+        record: record,
+    }
+}

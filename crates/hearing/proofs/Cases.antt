@@ -1,0 +1,146 @@
+-- What a line leads to, by the kind of its frame and by what is waited for. Assumes nothing.
+use mathlib.Core.Path.{_≡_, refl}
+use mathlib.Core.Bool.{Bool, true, false, cond}
+use mathlib.Core.List.{List, [], _∷_}
+use Prim.Native.Nat.{ℕ, zero, suc, _+_, _≤_, _<_}
+use native.Mathlib.Omega.{arith}
+use borrow.Author.Tests.{lt-ltb, le-ltb}
+use types.Run.{OneOf, miss}
+use denote.Enum.Declared.{tagOf}
+use lib.Dec.{ltb}
+use lib.ListN.{length, set, length-set}
+use Rattle.update.specs.declared.Record.{Record}
+use Rattle.update.specs.Memories.{Memory}
+use Rattle.frames.specs.declared.Expected.{Expected}
+use Rattle.frames.specs.declared.Expected.the-variants.{AtHeader, AtSymbol, AtProduction, AtEquation, Ended}
+use Rattle.frames.specs.declared.Frame.{Frame}
+use Rattle.frames.specs.declared.Frame.the-variants.{Header, Symbol, Production, Equation, Node, Load, Replace, Dump, Refused, Over}
+use Rattle.texts.specs.Read.{wordsAfter, takenAt}
+use Rattle.frames.proofs.Expected as X
+use Rattle.frames.proofs.Frame as F
+use Rattle.session.specs.Session.{dumpTold}
+use Rattle.hearing.specs.Hearing.{Heard, stopped, strange, waiting, called, ordered, commanded, modeOf, tabled, keptAt, noded, hearing}
+use Rattle.hearing.specs.declared.Order.{Order}
+use Rattle.hearing.specs.declared.Order.the-variants as order
+use Rattle.hearing.specs.declared.Mode.{Mode}
+use Rattle.hearing.specs.declared.Mode.the-variants.{Table, Command, Nodes, Working, Stopped}
+
+pub not-ended : (x : Expected) → OneOf (0 ∷ 1 ∷ 2 ∷ 3 ∷ []) (tagOf X.the-type x) → Table x ≡ modeOf x
+not-ended AtHeader k = refl
+not-ended (AtSymbol s) k = refl
+not-ended (AtProduction p) k = refl
+not-ended (AtEquation p q l) k = refl
+not-ended Ended k = absurd (miss (0 ∷ 1 ∷ 2 ∷ 3 ∷ []) 4 tt k)
+
+-- ---- a node kept, and one too many
+module _ (taken x : ℕ) (xs : List ℕ) where
+  pub kept-in : taken < 513 → set xs taken x ≡ keptAt taken x xs
+  kept-in h = rw (lt-ltb taken 513 h)
+
+  pub kept-out : 513 ≤ taken → xs ≡ keptAt taken x xs
+  kept-out h = rw (le-ltb taken 513 h)
+
+  same-room : (b : Bool) → length (cond b (set xs taken x) xs) ≡ length xs
+  same-room true = length-set xs taken x
+  same-room false = refl
+
+  -- 513 have their place still
+  pub kept-room : (ys : List ℕ) → ys ≡ keptAt taken x xs → 513 ≤ length xs → 513 ≤ length ys
+  kept-room ys e h = rw (e, same-room (ltb taken 513)) h
+
+-- ---- a frame by its tag
+module _ (t ps os : List ℕ) (m : Memory) (r : Record) where
+  pub not-refused : (f : Frame) (line : ℕ) → OneOf (0 ∷ 1 ∷ 2 ∷ 3 ∷ 4 ∷ 5 ∷ 6 ∷ 7 ∷ 9 ∷ []) (tagOf F.the-type f) → strange t ps os m r f line ≡ stopped t ps os m r 14 line
+  not-refused (Header a b) line k = refl
+  not-refused (Symbol a b) line k = refl
+  not-refused (Production a b c) line k = refl
+  not-refused (Equation a b c d) line k = refl
+  not-refused (Node a b) line k = refl
+  not-refused (Load a) line k = refl
+  not-refused (Replace a b) line k = refl
+  not-refused Dump line k = refl
+  not-refused (Refused a b) line k = absurd (miss (0 ∷ 1 ∷ 2 ∷ 3 ∷ 4 ∷ 5 ∷ 6 ∷ 7 ∷ 9 ∷ []) 8 tt k)
+  not-refused Over line k = refl
+
+  pub no-command : (f : Frame) (line : ℕ) → OneOf (0 ∷ 1 ∷ 2 ∷ 3 ∷ 4 ∷ 8 ∷ 9 ∷ []) (tagOf F.the-type f) → commanded t ps os m r f line ≡ strange t ps os m r f line
+  unfolding commanded
+  no-command (Header a b) line k = refl
+  no-command (Symbol a b) line k = refl
+  no-command (Production a b c) line k = refl
+  no-command (Equation a b c d) line k = refl
+  no-command (Node a b) line k = refl
+  no-command (Load a) line k = absurd (miss (0 ∷ 1 ∷ 2 ∷ 3 ∷ 4 ∷ 8 ∷ 9 ∷ []) 5 tt k)
+  no-command (Replace a b) line k = absurd (miss (0 ∷ 1 ∷ 2 ∷ 3 ∷ 4 ∷ 8 ∷ 9 ∷ []) 6 tt k)
+  no-command Dump line k = absurd (miss (0 ∷ 1 ∷ 2 ∷ 3 ∷ 4 ∷ 8 ∷ 9 ∷ []) 7 tt k)
+  no-command (Refused a b) line k = refl
+  no-command Over line k = refl
+
+  pub no-node : (o : Order) (count taken command : ℕ) (f : Frame) (line : ℕ) → OneOf (0 ∷ 1 ∷ 2 ∷ 3 ∷ 5 ∷ 6 ∷ 7 ∷ 8 ∷ 9 ∷ []) (tagOf F.the-type f)
+      → noded o count taken command f line t ps os m r ≡ strange t ps os m r f line
+  unfolding noded
+  no-node o count taken command (Header a b) line k = refl
+  no-node o count taken command (Symbol a b) line k = refl
+  no-node o count taken command (Production a b c) line k = refl
+  no-node o count taken command (Equation a b c d) line k = refl
+  no-node o count taken command (Node a b) line k = absurd (miss (0 ∷ 1 ∷ 2 ∷ 3 ∷ 5 ∷ 6 ∷ 7 ∷ 8 ∷ 9 ∷ []) 4 tt k)
+  no-node o count taken command (Load a) line k = refl
+  no-node o count taken command (Replace a b) line k = refl
+  no-node o count taken command Dump line k = refl
+  no-node o count taken command (Refused a b) line k = refl
+  no-node o count taken command Over line k = refl
+
+  -- ---- a command's first line
+  pub no-nodes : (o : Order) (count line : ℕ) → count ≡ 0 → ordered t ps os m r o count line ≡ called t ps os m r o count line
+  no-nodes o zero line e = refl
+  no-nodes o (suc n) line e = absurd (omega arith)
+
+  pub some-nodes : (o : Order) (count line : ℕ) → (count ≡ 0 → ⊥) → ordered t ps os m r o count line ≡ waiting t ps os m r (Nodes o count 0 line)
+  some-nodes o zero line f = absurd (f refl)
+  some-nodes o (suc n) line f = refl
+
+  module _ (f : Frame) (line : ℕ) where
+    pub a-load : (count : ℕ) → f ≡ Load count → commanded t ps os m r f line ≡ ordered t ps os m r order.Load count line
+    unfolding commanded
+    a-load count e = rw e
+
+    pub a-replacement : (point count : ℕ) → f ≡ Replace point count → commanded t ps os m r f line ≡ ordered t ps os m r (order.Replace point) count line
+    unfolding commanded
+    a-replacement point count e = rw e
+
+    pub a-dump : f ≡ Dump → commanded t ps os m r f line ≡ record { mode = Command; text = dumpTold line t r m .text; next = r; words = t; parts = ps; partOwns = os; memory = m }
+    unfolding commanded
+    a-dump e = rw e
+
+    -- ---- a node
+    module _ (o : Order) (count taken command p own : ℕ) (e : f ≡ Node p own) where
+      pub more-nodes : taken + 1 < count
+          → noded o count taken command f line t ps os m r ≡ waiting t (keptAt taken p ps) (keptAt taken own os) m r (Nodes o count (taken + 1) command)
+      unfolding noded
+      more-nodes h = rw (e, lt-ltb (taken + 1) count h)
+
+      pub last-node : count ≤ taken + 1 → noded o count taken command f line t ps os m r ≡ called t (keptAt taken p ps) (keptAt taken own os) m r o count command
+      unfolding noded
+      last-node h = rw (e, le-ltb (taken + 1) count h)
+
+    -- ---- by what is waited for
+    module _ (mode : Mode) where
+      pub by-table : (x : Expected) → mode ≡ Table x → hearing mode f line t ps os m r ≡ tabled (wordsAfter t x f) ps os m (takenAt t x f line)
+      unfolding hearing
+      by-table x e = rw e
+
+      pub by-command : mode ≡ Command → hearing mode f line t ps os m r ≡ commanded t ps os m r f line
+      unfolding hearing
+      by-command e = rw e
+
+      pub by-nodes : (o : Order) (count taken command : ℕ) → mode ≡ Nodes o count taken command
+          → hearing mode f line t ps os m r ≡ noded o count taken command f line t ps os m r
+      unfolding hearing
+      by-nodes o count taken command e = rw e
+
+      pub by-working : (turns : ℕ) → mode ≡ Working turns → hearing mode f line t ps os m r ≡ waiting t ps os m r (Working turns)
+      unfolding hearing
+      by-working turns e = rw e
+
+      pub by-stopped : mode ≡ Stopped → hearing mode f line t ps os m r ≡ waiting t ps os m r Stopped
+      unfolding hearing
+      by-stopped e = rw e

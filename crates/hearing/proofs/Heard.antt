@@ -1,0 +1,81 @@
+-- What a line's parts of work lead to, as the code leaves them. Assumes nothing.
+use mathlib.Core.Path.{_≡_, refl, ap, sym, _∙_}
+use mathlib.Core.List.{List, [], _∷_}
+use Prim.Native.Nat.{ℕ, _+_, _≤_, min}
+use native.Mathlib.Omega.{arith}
+use lib.ListN.{length, take}
+use lib.Seq.{sets, length-take-le}
+use Rattle.refusal.specs.Numbers.{numberOf}
+use Rattle.refusal.specs.declared.Refusal.{Refusal}
+use Rattle.refusal.specs.declared.Verdict.the-variants.{Sound, Refused}
+use Rattle.lines.specs.Text.{byte, four}
+use Rattle.lines.proofs.Fields.{line-length}
+use Rattle.frames.specs.Out.{refusalText}
+use Rattle.update.specs.declared.Record.{Record}
+use Rattle.update.specs.Records.{emptyRecord}
+use Rattle.update.specs.Memories.{Memory}
+use Rattle.frames.specs.declared.Expected.{Expected}
+use Rattle.texts.specs.declared.Taken.{Taken}
+use Rattle.texts.specs.declared.Taken.the-variants.{Next, Stopped as StoppedAt}
+use Rattle.opens.specs.declared.Begun.{Begun}
+use Rattle.engine.specs.Lent.{begun}
+use Rattle.hearing.specs.Owed.{orderCall}
+use Rattle.hearing.specs.Hearing.{Heard, turnsMost, stopped, called, waiting, modeOf, tabled, Hears}
+use Rattle.hearing.specs.declared.Order.{Order}
+use Rattle.hearing.specs.declared.Mode.{Mode}
+use Rattle.hearing.specs.declared.Mode.the-variants.{Command, Working}
+use Rattle.hearing.specs.declared.Told.{Told}
+
+pub refusal-length : (n line : ℕ) → length (refusalText n line) ≡ 13
+unfolding refusalText
+refusal-length n line = line-length (byte 0x1f ∷ byte n ∷ four line ∷ [])
+
+-- where 513 nodes have a place the command's part of them has as many as it says
+pub taken-length : (xs : List ℕ) (count n : ℕ) → n ≡ min count 513 → 513 ≤ length xs → n ≡ length (take n xs)
+taken-length xs count n e h = sym (length-take-le n xs (omega arith))
+
+-- the same work under another description
+pub as-well : {h k : Heard} {told : Told} {printed : ℕ} {out out′ words parts partOwns : List ℕ} {m : Memory} → h ≡ k
+    → Hears k told printed out out′ words parts partOwns m → Hears h told printed out out′ words parts partOwns m
+as-well e x = rw e x
+
+-- nodes that are what others are
+pub kept-as : {h : Heard} {told : Told} {printed : ℕ} {out out′ words ps qs os ws : List ℕ} {m : Memory} → ps ≡ qs → os ≡ ws
+    → Hears h told printed out out′ words qs ws m → Hears h told printed out out′ words ps os m
+kept-as e f x = rw (e, f) x
+
+pub called-as : (t : List ℕ) {ps qs os ws : List ℕ} (m : Memory) (r : Record) (order : Order) (count command : ℕ) → ps ≡ qs → os ≡ ws
+    → called t qs ws m r order count command ≡ called t ps os m r order count command
+called-as t m r order count command e f = rw (e, f)
+
+module _ (t ps os : List ℕ) (m : Memory) (r : Record) where
+  -- nothing is printed
+  pub silent : (mode : Mode) (printed : ℕ) (out : List ℕ) → Hears (waiting t ps os m r mode) (record { mode = mode; «record» = r; printed = printed }) printed out out t ps os m
+  silent mode printed out = record { mode = refl; next = refl; place = omega arith; shown = refl; words-then = refl; parts-then = refl; owns-then = refl; memory = refl }
+
+  -- a refusal is
+  pub refusing : (mode : Mode) (n line printed at : ℕ) (out out′ : List ℕ) → at ≡ printed + 13 → out′ ≡ sets out printed (refusalText n line)
+      → Hears (record { mode = mode; text = refusalText n line; next = r; words = t; parts = ps; partOwns = os; memory = m }) (record { mode = mode; «record» = r; printed = at }) printed out out′ t ps os m
+  refusing mode n line printed at out out′ e f =
+      record { mode = refl; next = refl; place = omega (arith, refusal-length n line); shown = f; words-then = refl; parts-then = refl; owns-then = refl; memory = refl }
+
+  -- ---- the command whose last node has come
+  module _ (order : Order) (count command : ℕ) (b : Begun) (m′ : Memory) (n : ℕ) (k : n ≡ min count 513) (e : begun b m′ ≡ orderCall order t m r (take n ps) (take n os)) where
+    pub called-open : b .verdict ≡ Sound → called t ps os m r order count command ≡ waiting t ps os m′ (b .«record») (Working turnsMost)
+    unfolding called
+    called-open s = rw (← k, ← e, s)
+
+    pub called-refused : (q : Refusal) → b .verdict ≡ Refused q
+        → called t ps os m r order count command ≡ record { mode = Command; text = refusalText (numberOf q) command; next = b .«record»; words = t; parts = ps; partOwns = os; memory = m′ }
+    unfolding called
+    called-refused q s = rw (← k, ← e, s)
+
+-- ---- a frame of the table: u the words behind it, and w those that the code left
+module _ (u w ps os : List ℕ) (m : Memory) (printed : ℕ) (out : List ℕ) (taken : Taken) where
+  pub table-next : (mode : Mode) (r : Record) (y : Expected) → taken ≡ Next y → w ≡ u → mode ≡ modeOf y → r ≡ emptyRecord
+      → Hears (tabled u ps os m taken) (record { mode = mode; «record» = r; printed = printed }) printed out out w ps os m
+  table-next mode r y e f g h = rw (e, f, g, h) (silent u ps os m emptyRecord (modeOf y) printed out)
+
+  pub table-stopped : (out′ : List ℕ) (told : Told) (r : Record) (q : Refusal) (line : ℕ) → taken ≡ StoppedAt q line → w ≡ u → r ≡ emptyRecord
+      → Hears (stopped w ps os m r (numberOf q) line) told printed out out′ w ps os m → Hears (tabled u ps os m taken) told printed out out′ w ps os m
+  table-stopped out′ told r q line e f h x = rw (e, ← f, ← h) x

@@ -1,0 +1,265 @@
+-- What a line does to what is owed: by what is waited for, and by the line's frame. Assumes nothing.
+use mathlib.Core.Path.{_≡_, refl, ap, sym, _∙_}
+use mathlib.Core.Bool.{Bool, true, false, cond, true≢false}
+use mathlib.Core.List.{List, [], _++_, append-nil}
+use Prim.Native.Nat.{ℕ, zero, suc, _+_, _-_, _≤_, _<_, min}
+use native.Mathlib.Omega.{arith}
+use borrow.Author.Tests.{ltb-true, ltb-false}
+use lib.Dec.{ltb}
+use lib.ListN.{length, take, length-append}
+use Rattle.refusal.specs.Numbers.{numberOf}
+use Rattle.update.specs.declared.Record.{Record}
+use Rattle.update.specs.Records.{emptyRecord}
+use Rattle.update.specs.Memories.{Memory}
+use Rattle.update.specs.Within.{Roomy}
+use Rattle.update.specs.Calls.{Said, refused, said, Left, Opened, is-open}
+use Rattle.engine.specs.Order.{Holding}
+use Rattle.frames.specs.Frames.{frameAt, lineAfter}
+use Rattle.frames.specs.Walk.{isOn}
+use Rattle.texts.specs.Read.{Sofar, typeOf, takenAt, wordsAfter}
+use Rattle.texts.specs.Reading.{after, readOn}
+use Rattle.planting.specs.Planting.{Nodes, before, nodeThen, nodesAt}
+use Rattle.texts.specs.declared.Taken.{Taken}
+use Rattle.texts.specs.declared.Taken.the-variants.{Next, Stopped as StoppedAt}
+use Rattle.texts.proofs.Sofar.{goes}
+use Rattle.planting.proofs.Trees.{nodes-forth}
+use Rattle.frames.specs.Out.{refusalText}
+use Rattle.frames.specs.declared.Frame.{Frame}
+use Rattle.frames.specs.declared.Frame.the-variants as frame
+use Rattle.frames.specs.declared.Expected.{Expected}
+use Rattle.frames.specs.declared.Expected.the-variants.{AtHeader, AtSymbol, AtProduction, AtEquation, Ended}
+use Rattle.session.specs.Session.{Told, andOn, withNodes, openedThen, dumpTold, command, commandsFrom}
+use Rattle.hearing.specs.Owed.{commands, onward, orderCall, heard, behind, tableThen, owed, Sound}
+use Rattle.hearing.specs.Hearing.{Heard, stopped, waiting, openedBy, called, ordered, commanded, modeOf, tabled, keptAt, noded, hearing}
+use Rattle.hearing.specs.Laws.{Pays, LinePays}
+use Rattle.hearing.specs.declared.Order.{Order}
+use Rattle.hearing.specs.declared.Order.the-variants.{Load, Replace}
+use Rattle.hearing.specs.declared.Mode.{Mode}
+use Rattle.hearing.specs.declared.Mode.the-variants.{Table, Command, Nodes as NodesOf, Working, Stopped}
+use Rattle.hearing.proofs.Windows.{Front, front}
+use Rattle.hearing.proofs.Shifts.{command-moved, with-moved, onward-shift, nodes-shift, table-shift, read-shift, read-shut, read-turn, taken-type}
+use Rattle.hearing.proofs.Opened.{empty-holds, order-keeps}
+use Rattle.hearing.proofs.Coming.{heard-none, order-next, order-last, with-node, behind-none, behind-moved}
+
+-- what a line prints, and what is owed behind it
+abbrev owes : Heard → ℕ → List ℕ → List ℕ
+owes h line u = h .text ++ owed (h .mode) (h .words) (h .parts) (h .partOwns) (h .memory) (h .next) line u
+
+abbrev SoundBy : Heard → Type 0
+SoundBy h = Sound (h .mode) (h .words) (h .memory) (h .next)
+
+nothing-owed : (t ps os : List ℕ) (m : Memory) (r : Record) (line : ℕ) (u : List ℕ) → owed Stopped t ps os m r line u ≡ []
+unfolding owed
+nothing-owed t ps os m r line u = refl
+
+-- ---- a command all of whose nodes have come
+
+opened-owed : (t ps os : List ℕ) (m : Memory) (r : Record) (at line : ℕ) (u : List ℕ) (left : Left (Said Opened))
+    → andOn (openedThen at t left) 0 line (onward u t) ≡ owes (openedBy t ps os m r at left) line u
+unfolding owed
+opened-owed t ps os m r at line u left = by-answer (left .answer) refl
+  where
+    by-answer : (a : Said Opened) → left .answer ≡ a → andOn (openedThen at t left) 0 line (onward u t) ≡ owes (openedBy t ps os m r at left) line u
+    by-answer (refused n) e = rw e
+    by-answer (said is-open) e = rw e
+
+-- ---- what is known where a line w stands in front: t the words, ps and os the nodes that have come
+module _ (t ps os : List ℕ) (m : Memory) (r : Record) (line : ℕ) (w : List ℕ) (some : 0 < length w) where
+  -- the turns that are left behind the line
+  abbrev left : List ℕ → ℕ
+  left u = length w + length u - 1
+
+  turns : (u : List ℕ) → length (w ++ u) ≡ suc (left u)
+  turns u = omega (arith, length-append w u)
+
+  enough : (u : List ℕ) → length u ≤ left u
+  enough u = omega arith
+
+  -- a line that ends the session
+  ends : (mode : Mode) (n at : ℕ) → ((u : List ℕ) → owed mode t ps os m r line (w ++ u) ≡ refusalText n at) → Pays mode t ps os m r line w (stopped t ps os m r n at)
+  unfolding owed
+  ends mode n at e = record { owing = λ u. e u ∙ sym (append-nil (refusalText n at)); sound = tt }
+
+  -- ---- a command is waited for
+
+  module _ (f : Frame) (x : Front w line f) where
+    command-first : (u : List ℕ) → commands (w ++ u) t line r m
+        ≡ command (w ++ u) t f line (frameAt (w ++ u) 0 line .place) (frameAt (w ++ u) 0 line .line) r m (commandsFrom (left u) (w ++ u) t)
+    unfolding commandsFrom
+    command-first u = rw (turns u, x .frame u)
+
+    command-line : 0 < typeOf f → (u : List ℕ) → commands (w ++ u) t line r m ≡ command u t f line 0 (lineAfter line) r m (onward u t)
+    command-line y u =
+        command-first u ∙ rw (x .place y u, x .next y u)
+        (command-moved w u t (commandsFrom (left u) (w ++ u) t) (onward u t) f line 0 (lineAfter line) r m (λ _ q line′ r′ m′ i. onward-shift w u t (left u) q line′ r′ m′ (enough u)))
+
+  -- a command's first line
+  module _ (order : Order) where
+    abbrev call : List ℕ → List ℕ → Told
+    call qs ws = openedThen line t (orderCall order t m r qs ws)
+
+    waits : (n : ℕ) (u : List ℕ) → withNodes (nodesAt (suc n) u 0 (lineAfter line)) call (onward u t) ≡ owed (NodesOf order (suc n) 0 line) t ps os m r (lineAfter line) u
+    unfolding owed
+    waits n u = let z : suc n - 0 ≡ suc n = omega arith in rw (heard-none (suc n) ps, heard-none (suc n) os, z) (ap (λ (x : Nodes). withNodes x call (onward u t)) (sym (behind-none (nodesAt (suc n) u 0 (lineAfter line)))))
+
+    none-waits : (u : List ℕ) → withNodes (nodesAt 0 u 0 (lineAfter line)) call (onward u t) ≡ owes (called t ps os m r order 0 line) (lineAfter line) u
+    unfolding called nodesAt
+    none-waits u = opened-owed t ps os m r line (lineAfter line) u (orderCall order t m r [] [])
+
+    ordered-owed : (count : ℕ) (u : List ℕ) → withNodes (nodesAt count u 0 (lineAfter line)) call (onward u t) ≡ owes (ordered t ps os m r order count line) (lineAfter line) u
+    ordered-owed zero u = none-waits u
+    ordered-owed (suc n) u = waits n u
+
+    ordered-sound : Holding t m r → (count : ℕ) → SoundBy (ordered t ps os m r order count line)
+    unfolding called
+    ordered-sound h zero = order-keeps t m r h ps os line order [] []
+    ordered-sound h (suc n) = (h, omega arith)
+
+  dumped : (u : List ℕ) → andOn (dumpTold line t r m) 0 (lineAfter line) (onward u t) ≡ dumpTold line t r m .text ++ commands u t (lineAfter line) r m
+  unfolding dumpTold
+  dumped u = refl
+
+  commanded-pays : Holding t m r → (f : Frame) → Front w line f → Pays Command t ps os m r line w (commanded t ps os m r f line)
+  unfolding commanded owed
+  commanded-pays h (frame.Header a b) x = ends Command 14 line (command-line (frame.Header a b) x (omega arith))
+  commanded-pays h (frame.Symbol a b) x = ends Command 14 line (command-line (frame.Symbol a b) x (omega arith))
+  commanded-pays h (frame.Production a b c) x = ends Command 14 line (command-line (frame.Production a b c) x (omega arith))
+  commanded-pays h (frame.Equation a b c d) x = ends Command 14 line (command-line (frame.Equation a b c d) x (omega arith))
+  commanded-pays h (frame.Node a b) x = ends Command 14 line (command-line (frame.Node a b) x (omega arith))
+  commanded-pays h (frame.Load count) x = record {
+    owing = λ u. command-line (frame.Load count) x (omega arith) u ∙ ordered-owed Load count u;
+    sound = ordered-sound Load h count;
+  }
+  commanded-pays h (frame.Replace point count) x = record {
+    owing = λ u. command-line (frame.Replace point count) x (omega arith) u ∙ ordered-owed (Replace point) count u;
+    sound = ordered-sound (Replace point) h count;
+  }
+  commanded-pays h frame.Dump x = record { owing = λ u. command-line frame.Dump x (omega arith) u ∙ dumped u; sound = h }
+  commanded-pays h (frame.Refused refusal own) x = ends Command (numberOf refusal) own (command-first (frame.Refused refusal own) x)
+  commanded-pays h frame.Over x = absurd (x .some refl)
+
+  -- ---- a frame of the table is waited for
+
+  module _ (x : Expected) (on : isOn x ≡ true) (f : Frame) (z : Front w line f) where
+    table-first : (u : List ℕ) → owed (Table x) t ps os m r line (w ++ u)
+        ≡ tableThen (w ++ u) m (after (takenAt t x f line) (λ y. readOn (left u) (wordsAfter t x f) y (w ++ u) (frameAt (w ++ u) 0 line .place) (frameAt (w ++ u) 0 line .line)))
+    unfolding owed
+    table-first u = rw (turns u, read-turn t x (w ++ u) 0 line (left u) on, z .frame u)
+
+    -- what is owed with the words v behind the frame
+    table-on : (v : List ℕ) (y : Expected) (u : List ℕ) → 0 < typeOf f
+        → tableThen (w ++ u) m (readOn (left u) v y (w ++ u) (frameAt (w ++ u) 0 line .place) (frameAt (w ++ u) 0 line .line)) ≡ tableThen u m (readOn (length u) v y u 0 (lineAfter line))
+    table-on v y u h =
+        rw (z .place h u, z .next h u, read-shift w u (left u) (length u) v y 0 (lineAfter line) (omega arith) (omega arith)) (table-shift w u m (readOn (length u) v y u 0 (lineAfter line)))
+
+    next-owed : (v : List ℕ) (y : Expected) (u : List ℕ) → tableThen u m (readOn (length u) v y u 0 (lineAfter line)) ≡ owed (modeOf y) v ps os m emptyRecord (lineAfter line) u
+    unfolding owed
+    next-owed v AtHeader u = refl
+    next-owed v (AtSymbol s) u = refl
+    next-owed v (AtProduction p) u = refl
+    next-owed v (AtEquation p q k) u = refl
+    next-owed v Ended u = rw (read-shut v Ended u 0 (lineAfter line) (length u) refl)
+
+    next-sound : (v : List ℕ) (y : Expected) → Sofar v y → Roomy m → Sound (modeOf y) v m emptyRecord
+    next-sound v AtHeader s room = (s, refl)
+    next-sound v (AtSymbol i) s room = (s, refl)
+    next-sound v (AtProduction p) s room = (s, refl)
+    next-sound v (AtEquation p q k) s room = (s, refl)
+    next-sound v Ended s room = empty-holds v m s room
+
+    tabled-pays : Sofar t x → Roomy m → Pays (Table x) t ps os m r line w (tabled (wordsAfter t x f) ps os m (takenAt t x f line))
+    tabled-pays s room = by-taken (takenAt t x f line) refl
+      where
+        by-taken : (a : Taken) → takenAt t x f line ≡ a → Pays (Table x) t ps os m r line w (tabled (wordsAfter t x f) ps os m a)
+        by-taken (Next y) e = record {
+          owing = λ u. table-first u ∙ rw e (table-on (wordsAfter t x f) y u (taken-type t x f line y e)) ∙ next-owed (wordsAfter t x f) y u;
+          sound = next-sound (wordsAfter t x f) y (goes t x f line y s e) room;
+        }
+        by-taken (StoppedAt refusal at) e = record {
+          owing = λ u. table-first u ∙ rw e (sym (append-nil (refusalText (numberOf refusal) at))) ∙ ap (λ (a : List ℕ). refusalText (numberOf refusal) at ++ a) (sym (nothing-owed (wordsAfter t x f) ps os m emptyRecord (lineAfter line) u));
+          sound = tt;
+        }
+
+  -- ---- a node of a command is waited for
+
+  module _ (order : Order) (count taken at : ℕ) (few : taken < count) (long : 513 ≤ length ps) (owns-long : 513 ≤ length os) where
+    abbrev mode : Mode
+    mode = NodesOf order count taken at
+
+    abbrev carried : List ℕ → List ℕ → Told
+    carried qs ws = openedThen at t (orderCall order t m r qs ws)
+
+    abbrev front-part : Nodes → Nodes
+    front-part = behind (heard count taken ps) (heard count taken os)
+
+    -- the nodes that are to come behind the line
+    abbrev rest : ℕ
+    rest = count - (taken + 1)
+
+    nodes-first : (f : Frame) → Front w line f → (u : List ℕ) → owed mode t ps os m r line (w ++ u)
+        ≡ withNodes (front-part (nodeThen f line (nodesAt rest (w ++ u) (frameAt (w ++ u) 0 line .place) (frameAt (w ++ u) 0 line .line)))) carried (onward (w ++ u) t)
+    unfolding owed nodesAt
+    nodes-first f z u = let k : count - taken ≡ suc rest = omega arith in rw (k, z .frame u)
+
+    module _ (p o : ℕ) (z : Front w line (frame.Node p o)) where
+      node-line : (u : List ℕ) → owed mode t ps os m r line (w ++ u) ≡ withNodes (front-part (before p o (nodesAt rest u 0 (lineAfter line)))) carried (onward u t)
+      node-line u =
+          nodes-first (frame.Node p o) z u
+          ∙ rw (z .place (omega arith) u, z .next (omega arith) u, nodes-shift rest w u 0 (lineAfter line), behind-moved (heard count taken ps) (heard count taken os) p o (length w) (nodesAt rest u 0 (lineAfter line)))
+          (with-moved (length w) (front-part (before p o (nodesAt rest u 0 (lineAfter line)))) carried (onward (w ++ u) t) (onward u t) (λ qs ws q next e r′ m′.
+          onward-shift w u t (length (w ++ u)) q next r′ m′ (omega (arith, length-append w u))))
+
+      abbrev kept : List ℕ
+      kept = keptAt taken p ps
+
+      abbrev ownKept : List ℕ
+      ownKept = keptAt taken o os
+
+      more-owed : taken + 1 < count → (u : List ℕ) → owed mode t ps os m r line (w ++ u) ≡ owed (NodesOf order count (taken + 1) at) t kept ownKept m r (lineAfter line) u
+      unfolding owed
+      more-owed h u =
+          node-line u
+          ∙ with-node carried (onward u t) (heard count taken ps) (heard count taken os) (heard count (taken + 1) kept) (heard count (taken + 1) ownKept) p o (nodesAt rest u 0 (lineAfter line))
+          (λ qs ws q next e. ap (openedThen at t) (order-next t m r order count taken p o ps os few long owns-long qs ws (omega (arith, nodes-forth rest u 0 (lineAfter line) qs ws q next e .count))))
+
+      last-owed : taken + 1 ≡ count → (u : List ℕ) → owed mode t ps os m r line (w ++ u) ≡ owes (called t kept ownKept m r order count at) (lineAfter line) u
+      unfolding called nodesAt
+      last-owed h u =
+          let k : rest ≡ 0 = omega arith in
+          node-line u
+          ∙ rw (k, order-last t m r order count taken p o ps os few long owns-long h)
+          (opened-owed t kept ownKept m r at (lineAfter line) u (orderCall order t m r (take (min count 513) kept) (take (min count 513) ownKept)))
+
+      called-sound : Holding t m r → SoundBy (called t kept ownKept m r order count at)
+      unfolding called
+      called-sound h = order-keeps t m r h kept ownKept at order (take (min count 513) kept) (take (min count 513) ownKept)
+
+      node-pays : Holding t m r → (b : Bool) → ltb (taken + 1) count ≡ b
+          → Pays mode t ps os m r line w (cond b (waiting t kept ownKept m r (NodesOf order count (taken + 1) at)) (called t kept ownKept m r order count at))
+      node-pays h true e = let l : taken + 1 < count = ltb-true (taken + 1) count e in record { owing = more-owed l; sound = (h, l) }
+      node-pays h false e = record { owing = last-owed (omega (arith, ltb-false (taken + 1) count e)); sound = called-sound h }
+
+    noded-pays : Holding t m r → (f : Frame) → Front w line f → Pays mode t ps os m r line w (noded order count taken at f line t ps os m r)
+    unfolding noded
+    noded-pays h (frame.Header a b) z = ends mode 14 line (nodes-first (frame.Header a b) z)
+    noded-pays h (frame.Symbol a b) z = ends mode 14 line (nodes-first (frame.Symbol a b) z)
+    noded-pays h (frame.Production a b c) z = ends mode 14 line (nodes-first (frame.Production a b c) z)
+    noded-pays h (frame.Equation a b c d) z = ends mode 14 line (nodes-first (frame.Equation a b c d) z)
+    noded-pays h (frame.Node p o) z = node-pays p o z h (ltb (taken + 1) count) refl
+    noded-pays h (frame.Load a) z = ends mode 14 line (nodes-first (frame.Load a) z)
+    noded-pays h (frame.Replace a b) z = ends mode 14 line (nodes-first (frame.Replace a b) z)
+    noded-pays h frame.Dump z = ends mode 14 line (nodes-first frame.Dump z)
+    noded-pays h (frame.Refused refusal own) z = ends mode (numberOf refusal) own (nodes-first (frame.Refused refusal own) z)
+    noded-pays h frame.Over z = absurd (z .some refl)
+
+-- ---- a line, by what is waited for
+
+pub line-pays : LinePays
+unfolding hearing
+line-pays (Table x) t ps os m r line w on sound room size long owns-long h =
+    tabled-pays t ps os m r line w (h .some) x (sound .1) (frameAt w 0 line .frame) (front w line h) (sound .0) room
+line-pays Command t ps os m r line w on sound room size long owns-long h = commanded-pays t ps os m r line w (h .some) sound (frameAt w 0 line .frame) (front w line h)
+line-pays (NodesOf order count taken at) t ps os m r line w on sound room size long owns-long h =
+    noded-pays t ps os m r line w (h .some) order count taken at (sound .1) long owns-long (sound .0) (frameAt w 0 line .frame) (front w line h)
+line-pays (Working n) t ps os m r line w on sound room size long owns-long h = absurd (true≢false (sym on))
+line-pays Stopped t ps os m r line w on sound room size long owns-long h = record { owing = λ u. nothing-owed t ps os m r line (w ++ u) ∙ sym (nothing-owed t ps os m r (lineAfter line) u); sound = tt }

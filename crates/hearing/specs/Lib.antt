@@ -1,0 +1,4 @@
+pub mod Owed
+pub mod Hearing
+pub mod Telling
+pub mod Laws

@@ -1,0 +1,91 @@
+-- The rounds of an update, as many as there is room for, and those that are left. Assumes nothing.
+use mathlib.Core.Path.{_≡_}
+use mathlib.Core.Bool.{cond}
+use mathlib.Core.List.{List, [], _++_}
+use Prim.Native.Nat.{ℕ, zero, suc, _+_, _-_, _<_, _^_}
+use lib.Dec.{ltb}
+use lib.ListN.{length, take}
+use lib.Seq.{sets}
+use Rattle.update.specs.declared.Record.{Record}
+use Rattle.update.specs.Memories.{Memory}
+use Rattle.update.specs.Steps.{Outcome, round, done}
+use Rattle.update.specs.Calls.{Said, refused, said, stepCall}
+use Rattle.engine.specs.Lent.{lent}
+use Rattle.engine.specs.Order.{Holding, Going}
+use Rattle.engine.specs.Prepared.{Holds}
+use Rattle.session.specs.Session as session
+use Rattle.session.specs.Session.{stepsTold, before, outcomeText}
+use Rattle.hearing.specs.declared.Mode.{Mode}
+use Rattle.hearing.specs.declared.Mode.the-variants.{Command, Working}
+use Rattle.hearing.specs.declared.Told.{Told}
+
+-- ---- the line of one answer
+
+-- its numbers have room in their fields: "least instance (2), round (3), circle size (2)", "circles (2), evaluations (4), changed (2)"; a refusal has no line
+abbrev pub Printable : Said Outcome → Type 0
+Printable (refused n) = ⊥
+Printable (said (round least k size closed)) = (least < 2 ^ 16) × (k < 2 ^ 24) × (size < 2 ^ 16)
+Printable (said (done circles evaluations changed)) = (circles < 2 ^ 16) × (evaluations < 2 ^ 32) × (changed < 2 ^ 16)
+
+abbrev pub answerText : Said Outcome → List ℕ
+answerText (refused n) = []
+answerText (said o) = outcomeText o
+
+-- it stands in the buffer from `printed` on, 19 bytes long, and the next is printed behind it
+pub record AnswerPut (a : Said Outcome) (printed : ℕ) (out : List ℕ) (next : ℕ) (out′ : List ℕ) : Type 0 where
+  pub place : next ≡ printed + 19
+  pub long : length (answerText a) ≡ 19
+  pub shown : out′ ≡ sets out printed (answerText a)
+
+-- ---- the rounds that have room
+
+-- what they print, and then the mode, the record and the memory
+pub record Worked : Type 0 where
+  pub text : List ℕ
+  pub mode : Mode
+  pub next : Record
+  pub memory : Memory
+
+abbrev pub behindText : List ℕ → Worked → Worked
+behindText text w = record { text = text ++ w .text; mode = w .mode; next = w .next; memory = w .memory }
+
+-- a step's answer, as in `stepThen`: behind a round the steps that follow, else commands are heard again
+abbrev pub stepWithin : Said Outcome → Record → Memory → (Record → Memory → Worked) → Worked
+stepWithin (refused n) r m go = record { text = []; mode = Command; next = r; memory = m }
+stepWithin (said (round least k size closed)) r m go = behindText (outcomeText (round least k size closed)) (go r m)
+stepWithin (said (done circles evaluations changed)) r m go = record { text = outcomeText (done circles evaluations changed); mode = Command; next = r; memory = m }
+
+-- n steps at the most, each while its line of 19 bytes has room; those that have none are left
+unfoldable pub stepsWithin : ℕ → ℕ → List ℕ → Record → Memory → Worked
+stepsWithin zero room t r m = record { text = []; mode = Command; next = r; memory = m }
+stepsWithin (suc n) room t r m =
+    cond (ltb room 19)
+    (record { text = []; mode = Working (suc n); next = r; memory = m })
+    (let l = stepCall t m r in stepWithin (l .answer) (l .next) (l .memory) (stepsWithin n (room - 19) t))
+
+-- ---- all the rounds
+
+-- where the rounds stop: the update is done with, or steps are left and a line has no room
+pub data Rests (t : List ℕ) (m : Memory) (r : Record) (free : ℕ) : Mode → session.Told → Type 0 where
+  ended : {rest : session.Told} → rest ≡ record { text = []; next = r; memory = m } → Holding t m r → Rests t m r free Command rest
+  full : {rest : session.Told} (turns : ℕ) → rest ≡ stepsTold (suc turns) t r m → Going t m r → free < 19 → Rests t m r free (Working (suc turns)) rest
+
+-- the steps of an update: their text stands in the buffer from `printed` on, and what is left of them follows from the mode, the record and the memory
+pub record RoundsTold (t : List ℕ) (m : Memory) (r : Record) (turns printed : ℕ) (out : List ℕ) (told : Told) (m′ : Memory) (out′ : List ℕ) : Type 0 where
+  pub text : List ℕ
+  pub rest : session.Told
+  pub free : ℕ
+  pub whole : stepsTold turns t r m ≡ before text rest
+  pub shown : out′ ≡ sets out printed text
+  pub place : told .printed ≡ printed + length text
+  pub room : told .printed + free ≡ length out
+  -- and nothing of it is left open: so many rounds have room
+  pub exactly : stepsWithin turns (length out - printed) t r m ≡ record { text = text; mode = told .mode; next = told .«record»; memory = m′ }
+  pub rests : Rests t m′ (told .«record») free (told .mode) rest
+
+-- the same of the steps over the arrays, whatever memory they were made from: they hold the system of its tree
+pub record TurnsTold (t owns : List ℕ) (n : ℕ) (a b left rule label members ends : List ℕ) (count : ℕ) (olds sets : List ℕ) (r : Record) (turns printed : ℕ)
+    (out : List ℕ) (told : Told) (sets′ out′ : List ℕ) : Type 0 where
+  pub rounds : (held heldOwns : List ℕ) → Going t (lent held heldOwns sets olds) r → owns ≡ take (r .nodes) heldOwns
+      → Holds t (take (r .nodes) held) owns n a b left rule label members ends count
+      → RoundsTold t (lent held heldOwns sets olds) r turns printed out told (lent held heldOwns sets′ olds) out′

@@ -1,0 +1,3 @@
+pub mod Arranged
+pub mod Tests
+pub mod Says

@@ -1,0 +1,76 @@
+// The surviving instances whose set differs from before.
+use super::due::is_load;
+use super::due::wide;
+use update::Record;
+ghost use mathlib.Core.Path.{_≡_};
+ghost use mathlib.Core.Bool.{not};
+ghost use Prim.Native.Nat.{_<_, _≤_};
+ghost use lib.Dec.{eqb};
+ghost use lib.ListN.{length};
+ghost use Rattle.climb.specs.Memory.{at};
+ghost use Rattle.update.specs.Within.{WithinLimits};
+ghost use Rattle.update.specs.Steps.{survives, changedOf};
+ghost use Rattle.rounds.specs.Tests.{countedIn, oneIf, reading};
+
+// Whether the update left the node of x in the tree.
+fn survived(r: Record, x: usize) -> bool
+    requires { ⌜ WithinLimits r ⌝ }
+    ensures { λ s. ⌜ s ≡ survives r x ⌝ }
+{
+    let node = x / 8;
+    if node <= r.point {
+        return true;
+    }
+    r.point + r.part <= node
+}
+
+fn differs<'a>(before: &'a [u64], sets: &'a [u64], x: usize) -> u64
+    requires { ⌜ (x < length (now before)) × (x < length (now sets)) ⌝ }
+    ensures { λ c. ⌜ c ≡ oneIf (not (eqb (at (now (sets .entry)) x) (at (now (before .entry)) x))) ⌝ }
+{
+    if sets[x] == before[x] {
+        return 0;
+    }
+    1
+}
+
+// 1 where x is declared, survives and has another set than before.
+fn counted<'a>(
+    a: &'a [u16],
+    n: usize,
+    before: &'a [u64],
+    sets: &'a [u64],
+    r: Record,
+    x: usize,
+) -> u64
+    requires { ⌜ WithinLimits r ⌝ }
+    requires { ⌜ (x < n) × (n ≤ length (now a)) × (n ≤ length (now before)) × (n ≤ length (now sets)) ⌝ }
+    ensures { λ c. ⌜ c ≡ oneIf (countedIn n (now (a .entry)) r (now (before .entry)) (now (sets .entry)) x) ⌝ }
+{
+    if wide(a[x]) == 65534 {
+        return 0;
+    }
+    if survived(r, x) {
+        return differs(before, sets, x);
+    }
+    0
+}
+
+// How many they are; none for a load.
+pub fn changed<'a>(a: &'a [u16], n: usize, before: &'a [u64], sets: &'a [u64], r: Record) -> u64
+    requires { ⌜ WithinLimits r ⌝ }
+    requires { ⌜ (n ≤ length (now a)) × (n ≤ length (now before)) × (n ≤ length (now sets)) ⌝ }
+    ensures { λ c. ⌜ c ≡ changedOf (reading n (now (a .entry)) (now (a .entry))) r (now (before .entry)) (now (sets .entry)) ⌝ }
+{
+    let o = r.open;
+    if is_load(o) {
+        return 0;
+    }
+    let mut c: u64 = 0;
+    let mut x: usize = 0;
+    while x < n {
+        c += counted(a, n, before, sets, r, x);
+        x += 1;
+    }
+    c
+}

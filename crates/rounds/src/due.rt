@@ -1,0 +1,161 @@
+// The first due circle.
+use update::Open;
+use update::Record;
+ghost use mathlib.Core.Path.{_≡_};
+ghost use mathlib.Core.Bool.{false, cond};
+ghost use Prim.Native.Nat.{_<_, _≤_};
+ghost use lib.Dec.{ltb};
+ghost use lib.ListN.{length, getD};
+ghost use lib.Seq.{slice};
+ghost use Rattle.circles.specs.Arrays.{given};
+ghost use Rattle.circles.specs.Ranked.{anyOf};
+ghost use Rattle.climb.specs.Memory.{at};
+ghost use Rattle.climb.specs.Wired.{Span};
+ghost use Rattle.update.specs.Records.{isLoad};
+ghost use Rattle.update.specs.Within.{WithinLimits};
+ghost use Rattle.update.specs.Steps.{sownOf, dueFrom};
+ghost use Rattle.rounds.specs.Arranged.{circlesIn, Circles, Looks};
+ghost use Rattle.rounds.specs.Tests.{movedIn, dueIn, reading};
+
+pub fn wide(x: u16) -> usize
+    ensures { λ r. ⌜ r ≡ x ⌝ }
+{
+    x as usize
+}
+
+pub fn is_load(o: Open) -> bool
+    ensures { λ r. ⌜ r ≡ isLoad o ⌝ }
+{
+    match o {
+        Open::Nothing => false,
+        Open::Load => true,
+        Open::Replacement => false,
+    }
+}
+
+// Whether the update has sown the instance x.
+fn sown(r: Record, x: usize) -> bool
+    requires { ⌜ WithinLimits r ⌝ }
+    ensures { λ s. ⌜ s ≡ sownOf r x ⌝ }
+{
+    let o = r.open;
+    if is_load(o) {
+        return true;
+    }
+    let node = x / 8;
+    if node == r.point {
+        return x % 8 < 4;
+    }
+    if r.point < node {
+        return node < r.point + r.part;
+    }
+    false
+}
+
+// Whether the argument y is there, lies outside the circle with this least instance and has changed.
+fn moved<'a>(
+    label: &'a [u16],
+    before: &'a [u64],
+    sets: &'a [u64],
+    n: usize,
+    least: usize,
+    y: usize,
+) -> bool
+    requires { ⌜ (n ≤ length (now label)) × (n ≤ length (now before)) × (n ≤ length (now sets)) ⌝ }
+    ensures { λ m. ⌜ m ≡ cond (ltb y n) (movedIn (now (label .entry)) (at (now (before .entry))) (at (now (sets .entry))) least y) false ⌝ }
+{
+    if n <= y {
+        return false;
+    }
+    if wide(label[y]) == least {
+        return false;
+    }
+    sets[y] != before[y]
+}
+
+// Whether the instance x of that circle reads such an argument.
+fn reads_moved<'a>(
+    a: &'a [u16],
+    b: &'a [u16],
+    label: &'a [u16],
+    n: usize,
+    before: &'a [u64],
+    sets: &'a [u64],
+    least: usize,
+    x: usize,
+) -> bool
+    requires { ⌜ x < n ⌝ }
+    requires { ⌜ Looks n (now a) (now b) (now label) (now before) (now sets) ⌝ }
+    ensures { λ m. ⌜ m ≡ anyOf (movedIn (now (label .entry)) (at (now (before .entry))) (at (now (sets .entry))) least) (given n (getD (now (a .entry)) x 65534) (getD (now (b .entry)) x 65534)) ⌝ }
+{
+    let y = wide(a[x]);
+    let z = wide(b[x]);
+    if moved(label, before, sets, n, least, y) {
+        return true;
+    }
+    moved(label, before, sets, n, least, z)
+}
+
+// Whether the circle from start up to end is due.
+fn is_due<'a>(
+    a: &'a [u16],
+    b: &'a [u16],
+    label: &'a [u16],
+    members: &'a [u16],
+    start: usize,
+    end: usize,
+    n: usize,
+    before: &'a [u64],
+    sets: &'a [u64],
+    r: Record,
+    least: usize,
+) -> bool
+    requires { ⌜ WithinLimits r ⌝ }
+    requires { ⌜ Span (now members) n start end ⌝ }
+    requires { ⌜ Looks n (now a) (now b) (now label) (now before) (now sets) ⌝ }
+    ensures { λ d. ⌜ d ≡ dueIn n (now (a .entry)) (now (b .entry)) (now (label .entry)) r (at (now (before .entry))) (at (now (sets .entry))) least (slice start end (now (members .entry))) ⌝ }
+{
+    let mut p = start;
+    while p < end {
+        let x = wide(members[p]);
+        if sown(r, x) {
+            return true;
+        }
+        if reads_moved(a, b, label, n, before, sets, least, x) {
+            return true;
+        }
+        p += 1;
+    }
+    false
+}
+
+// The first due circle from the recorded rank on, or a rank past the last.
+pub fn first_due<'a>(
+    a: &'a [u16],
+    b: &'a [u16],
+    label: &'a [u16],
+    members: &'a [u16],
+    ends: &'a [u16],
+    count: usize,
+    n: usize,
+    before: &'a [u64],
+    sets: &'a [u64],
+    r: Record,
+) -> usize
+    requires { ⌜ WithinLimits r ⌝ }
+    requires { ⌜ Circles n (now a) (now b) (now label) (now members) (now ends) count ⌝ }
+    requires { ⌜ Looks n (now a) (now b) (now label) (now before) (now sets) ⌝ }
+    ensures { λ j. ⌜ j ≡ dueFrom (reading n (now (a .entry)) (now (b .entry))) (circlesIn n (now (a .entry)) (now (b .entry))) r (now (before .entry)) (now (sets .entry)) ⌝ }
+{
+    let mut i = r.rank;
+    while i < count {
+        let start = wide(ends[i]);
+        let end = wide(ends[i + 1]);
+        let least = wide(members[start]);
+        if is_due(a, b, label, members, start, end, n, before, sets, r, least) {
+            return i;
+        }
+        i += 1;
+    }
+    i
+}
