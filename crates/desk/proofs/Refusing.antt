@@ -232,9 +232,13 @@ module _ (d : Desk) (out : List ℕ) where
   unfolding stateRefusal first
   given-narrow h = rw h
 
-  pub given-wide : narrow d out ≡ false → stateRefusal d out ≡ firstRefusal (settledNumbers (d .state) (tableOf d) (d .window) (d .memory))
+  -- what a call is refused by that finds a buffer short, or none
+  pub given-short : (Wide (d .words) (d .window) (d .parts) (d .partOwns) (d .memory) out → ⊥) → stateRefusal d out ≡ 15
+  given-short n = ⊎-elim (λ (h : narrow d out ≡ true). given-narrow h) (λ (h : narrow d out ≡ false). absurd (n (narrow-means d out .0 h))) (either (narrow d out))
+
+  pub given-wide : Wide (d .words) (d .window) (d .parts) (d .partOwns) (d .memory) out → stateRefusal d out ≡ firstRefusal (settledNumbers (d .state) (tableOf d) (d .window) (d .memory))
   unfolding stateRefusal first
-  given-wide h = rw h
+  given-wide w = rw (narrow-means d out .1 w)
 
   given-overrun : narrow d out ≡ false → line ≡ true → stateRefusal d out ≡ 11
   unfolding stateRefusal first

@@ -12,6 +12,7 @@ use lib.Seq.{sets, length-sets, length-take-le, take-all, take-at, drop-drop}
 use Rattle.lines.proofs.Out.{sets-append}
 use Rattle.update.specs.declared.Record.{Record}
 use Rattle.update.specs.Memories.{Memory}
+use Rattle.update.specs.Refusals.{firstRefusal}
 use Rattle.frames.specs.Frames.{frameAt, lineAfter}
 use Rattle.frames.specs.declared.Frame.{Frame}
 use Rattle.session.specs.Session as session
@@ -26,9 +27,11 @@ use Rattle.hearing.specs.declared.Told.{Told}
 use Rattle.hearing.proofs.Mode as M
 use Rattle.hearing.proofs.Owing.{line-pays}
 use Rattle.desk.specs.declared.State.{State}
-use Rattle.desk.specs.Desk.{Desk, desk, tableOf, lineOf, owedFor, Wide, Fits, Settled}
+use Rattle.desk.specs.Desk.{Desk, desk, tableOf, lineOf, owedFor, Wide, Fits}
+use Rattle.desk.specs.Refusals.{settledNumbers, stateRefusal}
 use Rattle.pieces.specs.Feeding.{Feeds}
 use Rattle.desk.specs.Gathering.{Gathers}
+use Rattle.desk.proofs.Refusing.{given-wide, all-state-gives}
 use Rattle.pieces.proofs.Bounds.{Modest, heard-modest}
 use Rattle.pieces.specs.Faring.{Ready, Sized, Fares, atWork, toDo, Turns}
 
@@ -305,26 +308,30 @@ module _ (t w ps os : List ℕ) (m : Memory) (s : State) (piece : List ℕ) (fro
 
 -- ---- a call runs on a copy of the table's words
 module _ (words t w ps os : List ℕ) (m : Memory) (s : State) (out : List ℕ) (copy : t ≡ take 2657 words) where
-  pub settled-of : Fits (desk words w ps os m s) out → Settled s t w m
-  settled-of f = record { begun = f .begun; line = f .line; sound = rw copy (f .sound) }
+  -- what the copy is refused by is what the call is
+  pub copy-number : Wide words w ps os m out → stateRefusal (desk words w ps os m s) out ≡ firstRefusal (settledNumbers s t w m)
+  copy-number wide = given-wide (desk words w ps os m s) out wide ∙ ap (λ (l : List ℕ). firstRefusal (settledNumbers s l w m)) (sym copy)
 
-  module _ (wide : Wide words w ps os m out) (settled : Settled s t w m) where
+  module _ (wide : Wide words w ps os m out) (judged : firstRefusal (settledNumbers s t w m) ≡ 0) where
     copy-size : length t ≡ 2657
     copy-size = ap length copy ∙ length-take-le 2657 words (wide .words-room)
 
     copy-whole : take 2657 t ≡ t
     copy-whole = take-all 2657 t (omega (arith, copy-size))
 
+    pub none-of : stateRefusal (desk words w ps os m s) out ≡ 0
+    none-of = copy-number wide ∙ judged
+
     pub fits-of : Fits (desk words w ps os m s) out
-    fits-of = record { wide = wide; begun = settled .begun; line = settled .line; sound = rw (sym copy) (settled .sound) }
+    fits-of = all-state-gives (desk words w ps os m s) out .by0 .0 none-of
 
     pub ready-of : Ready (desk t w ps os m s) out
     ready-of = record {
       fits = record {
         wide = record { words-room = omega (arith, copy-size); window-room = wide .window-room; parts-room = wide .parts-room; owns-room = wide .owns-room; room = wide .room; out-room = wide .out-room };
-        begun = settled .begun;
-        line = settled .line;
-        sound = rw copy-whole (settled .sound);
+        begun = fits-of .begun;
+        line = fits-of .line;
+        sound = rw (copy-whole, copy) (fits-of .sound);
       };
       size = copy-size;
     }

@@ -1,3 +1,4 @@
 pub mod Bounds
 pub mod Cutting
 pub mod Faring
+pub mod Refusing

@@ -6,10 +6,12 @@ use Prim.Native.Nat.{ℕ, _≤_, _<_}
 use lib.ListN.{length, drop}
 use lib.Seq.{sets}
 use Rattle.refusal.specs.declared.Refusal.{Refusal}
+use Rattle.refusal.specs.Numbers.{numberOf}
 use Rattle.hearing.specs.Laws.{listens}
 use Rattle.hearing.specs.declared.Mode.the-variants.{Stopped}
 use Rattle.desk.specs.declared.State.{State}
 use Rattle.desk.specs.Desk.{Desk, Fits, owedFor}
+use Rattle.desk.specs.Refusals.{stateRefusal}
 use Rattle.pieces.specs.declared.Fed.{Fed}
 use Rattle.pieces.specs.declared.Fed.the-variants.{Taken, Refused}
 
@@ -30,7 +32,7 @@ pub record Feeds (d : Desk) (piece : List ℕ) (from : ℕ) (out : List ℕ) (d�
   -- or much was printed, and the buffer has to be emptied first
   pub full : more ≡ true → 36864 < printed
 
--- the answer for any state and any memory: where it is no session's, nothing is changed
+-- the answer for any state and any memory: where it is no session's, that is refused by its number, and nothing is changed
 pub data FeedSays (d : Desk) (piece : List ℕ) (from : ℕ) (out : List ℕ) (d′ : State → Desk) (out′ : List ℕ) : Fed → Type 0 where
-  takes : {s : State} {place printed : ℕ} {more : Bool} → Fits d out → Feeds d piece from out (d′ s) place printed more out′ → FeedSays d piece from out d′ out′ (Taken s place printed more)
-  refuses : {q : Refusal} → (Fits d out → ⊥) → d′ (d .state) ≡ d → out′ ≡ out → FeedSays d piece from out d′ out′ (Refused q)
+  takes : {s : State} {place printed : ℕ} {more : Bool} → stateRefusal d out ≡ 0 → Fits d out → Feeds d piece from out (d′ s) place printed more out′ → FeedSays d piece from out d′ out′ (Taken s place printed more)
+  refuses : {q : Refusal} → stateRefusal d out ≡ numberOf q → d′ (d .state) ≡ d → out′ ≡ out → FeedSays d piece from out d′ out′ (Refused q)

@@ -1,3 +1,4 @@
 pub mod Faring
 pub mod Feeding
 pub mod Laws
+pub mod Refused
