@@ -29,7 +29,7 @@ use Rattle.engine.specs.Lent.{stepped, advanced}
 use Rattle.engine.specs.Order.{Going}
 use Rattle.engine.specs.Prepared.{Holds}
 use Rattle.judging.proofs.Orders.{step-none}
-use Rattle.opening.proofs.Answers.{by, left-carried}
+use Rattle.opens.proofs.Answers.{by, left-carried}
 use Rattle.judging.proofs.Parts.{and-first}
 use Rattle.engine.proofs.Alike.{step-same, run-same}
 

@@ -26,7 +26,7 @@ use Rattle.update.specs.Steps.{Outcome, round, done, Ending, paused, finished}
 use Rattle.update.specs.Calls.{Said, refused, said, answerSays, Ranged, runSays, readingSays, Left, Opened, is-open, loadCall, replaceCall, stepCall, runCall, readCall}
 use Rattle.steps.specs.declared.step.Stepped.{Stepped}
 use Rattle.steps.specs.declared.run.Advanced.{Advanced}
-use Rattle.opening.specs.declared.Begun.{Begun}
+use Rattle.opens.specs.declared.Begun.{Begun}
 use Rattle.engine.specs.Lent.{lent, openedSays, begun, stepped, advanced, RunLeaves}
 use Rattle.engine.specs.Unique.{AnswersOne, LeavesOne, EveryLeavesOne}
 

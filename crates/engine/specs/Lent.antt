@@ -8,7 +8,7 @@ use Rattle.update.specs.Calls.{Said, answerSays, Ranged, runSays, Left, runCall
 use Rattle.update.specs.declared.Record.{Record}
 use Rattle.update.specs.declared.Answer.{Answer}
 use Rattle.update.specs.declared.Run.{Run}
-pub use Rattle.opening.specs.Lent.{lent, openedSays, begun}
+pub use Rattle.opens.specs.Lent.{lent, openedSays, begun}
 
 -- a step's
 abbrev pub stepped : Answer → Record → Memory → Left (Said Outcome)

@@ -21,7 +21,7 @@ use Rattle.update.specs.Records.{emptyRecord}
 use Rattle.update.specs.Calls.{readingSays, loadCall, replaceCall, stepCall, readCall}
 use Rattle.steps.specs.declared.step.Stepped.{Stepped}
 use Rattle.steps.specs.declared.run.Advanced.{Advanced}
-use Rattle.opening.specs.declared.Begun.{Begun}
+use Rattle.opens.specs.declared.Begun.{Begun}
 use Rattle.engine.specs.Lent.{lent, begun, stepped, RunLeaves}
 
 -- ---- the calls that leave nothing but their answer

@@ -2,11 +2,11 @@
 mod reading;
 mod working;
 
-pub use opening::Begun;
-pub use opening::load;
-pub use opening::load_judged;
-pub use opening::replace;
-pub use opening::replace_judged;
+pub use opens::Begun;
+pub use opens::load;
+pub use opens::load_judged;
+pub use opens::replace;
+pub use opens::replace_judged;
 pub use reading::read;
 pub use working::prepare;
 pub use working::run;

@@ -17,7 +17,7 @@ use Rattle.update.specs.Memories.{Memory}
 use Rattle.frames.specs.declared.Expected.{Expected}
 use Rattle.texts.specs.declared.Taken.{Taken}
 use Rattle.texts.specs.declared.Taken.the-variants.{Next, Stopped as StoppedAt}
-use Rattle.opening.specs.declared.Begun.{Begun}
+use Rattle.opens.specs.declared.Begun.{Begun}
 use Rattle.engine.specs.Lent.{begun}
 use Rattle.hearing.specs.Owed.{orderCall}
 use Rattle.hearing.specs.Hearing.{Heard, turnsMost, stopped, called, waiting, modeOf, tabled, Hears}

@@ -1,8 +1,8 @@
 -- The record field by field. Assumes nothing.
 use mathlib.Core.Path.{refl}
 use Rattle.update.specs.Records.{opened}
-use Rattle.opening.proofs.just_opened.Statement.{statement}
-use Rattle.opening.proofs.just_opened.Tie as tie
+use Rattle.opens.proofs.just_opened.Statement.{statement}
+use Rattle.opens.proofs.just_opened.Tie as tie
 
 pub just-opened-spec : {M : Type 1} → statement M
 unfolding opened

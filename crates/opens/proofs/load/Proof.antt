@@ -1,12 +1,12 @@
 -- What comes first in every call, and then the load over what is judged. Assumes nothing.
 use Rattle.refusal.proofs.Distinct.{sound-zero, refused-number}
 use Rattle.update.specs.Memories.{Memory}
-use Rattle.opening.specs.Lent.{lent}
+use Rattle.opens.specs.Lent.{lent}
 use Rattle.judging.proofs.Orders.{grounded, load-stopped}
-use Rattle.opening.proofs.Answers.{load-refused}
+use Rattle.opens.proofs.Answers.{load-refused}
 use borrow.Author.Needs.{needs}
-use Rattle.opening.proofs.load.Statement.{statement}
-use Rattle.opening.proofs.load.Tie as tie
+use Rattle.opens.proofs.load.Statement.{statement}
+use Rattle.opens.proofs.load.Tie as tie
 
 abbrev memory : tie.Start → Memory
 memory s = lent (s .args .held .now) (s .args .held-owns .now) (s .args .sets .now) (s .args .before .now)

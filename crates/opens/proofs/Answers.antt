@@ -15,7 +15,7 @@ use Rattle.update.specs.Records.{opened}
 use Rattle.update.specs.Memories.{Memory, nodesOf, loaded, replaced}
 use Rattle.update.specs.Refusals.{loadRefusal, replaceRefusal}
 use Rattle.update.specs.Calls.{Said, refused, said, Left, unless, Opened, is-open, loadCall, replaceCall}
-use Rattle.opening.specs.Lent.{begun}
+use Rattle.opens.specs.Lent.{begun}
 
 left-refused : {A : Type 0} (n : ℕ) (r : Record) (m : Memory) (l : Left (Said A)) → 0 < n → record { answer = refused n; next = r; memory = m } ≡ unless n r m l
 left-refused zero r m l h = absurd (omega arith)

@@ -4,7 +4,7 @@ use Rattle.refusal.specs.declared.Verdict.{Verdict}
 use Rattle.refusal.specs.declared.Verdict.the-variants.{Sound, Refused}
 use Rattle.update.specs.Memories.{Memory}
 use Rattle.update.specs.Calls.{Said, refused, said, Left, Opened, is-open}
-use Rattle.opening.specs.declared.Begun.{Begun}
+use Rattle.opens.specs.declared.Begun.{Begun}
 pub use Rattle.judging.specs.Lent.{lent}
 
 -- what document 01's numbers and values are, of each verdict of a load or a replacement

@@ -16,14 +16,14 @@ use Rattle.update.specs.declared.Open.the-variants.{Replacement}
 use Rattle.update.specs.Records.{opened}
 use Rattle.update.specs.Memories.{Memory}
 use Rattle.update.specs.Refusals.{firstRefusal, replaceRefusal}
-use Rattle.opening.specs.Lent.{lent}
+use Rattle.opens.specs.Lent.{lent}
 use Rattle.judging.specs.Order.{partNumbers}
 use Rattle.judging.proofs.Orders.{Parts, parts, point-past, point-none, tree-sound, tree-equal}
-use Rattle.opening.proofs.Answers.{replace-refused, replace-carried}
+use Rattle.opens.proofs.Answers.{replace-refused, replace-carried}
 use Rattle.judging.proofs.Parts.{part-fits, some-nodes}
 use borrow.Author.Needs.{needs}
-use Rattle.opening.proofs.exchange_part.Statement.{statement}
-use Rattle.opening.proofs.exchange_part.Tie as tie
+use Rattle.opens.proofs.exchange_part.Statement.{statement}
+use Rattle.opens.proofs.exchange_part.Tie as tie
 
 abbrev memory : tie.Start → Memory
 memory s = lent (s .args .held .now) (s .args .held-owns .now) (s .args .sets .now) (s .args .before .now)

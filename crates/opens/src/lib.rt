@@ -16,7 +16,7 @@ ghost use Prim.Native.Nat.{_<_};
 ghost use Rattle.update.specs.Records.{isOpen, opened};
 ghost use Rattle.update.specs.Refusals.{heldRefusal};
 ghost use Rattle.update.specs.Calls.{loadCall, replaceCall};
-ghost use Rattle.opening.specs.Lent.{lent, begun};
+ghost use Rattle.opens.specs.Lent.{lent, begun};
 ghost use Rattle.judging.specs.Order.{Grounded, Holding};
 
 // What a load or a replacement answers, and the record that it leaves.

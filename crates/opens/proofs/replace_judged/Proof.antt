@@ -1,12 +1,12 @@
 -- 10, 16, 9, and then the exchange at that point. Assumes nothing.
 use Rattle.refusal.proofs.Distinct.{sound-zero, refused-number}
 use Rattle.update.specs.Memories.{Memory}
-use Rattle.opening.specs.Lent.{lent}
+use Rattle.opens.specs.Lent.{lent}
 use Rattle.judging.proofs.Orders.{pointed, point-stopped}
-use Rattle.opening.proofs.Answers.{replace-refused}
+use Rattle.opens.proofs.Answers.{replace-refused}
 use borrow.Author.Needs.{needs}
-use Rattle.opening.proofs.replace_judged.Statement.{statement}
-use Rattle.opening.proofs.replace_judged.Tie as tie
+use Rattle.opens.proofs.replace_judged.Statement.{statement}
+use Rattle.opens.proofs.replace_judged.Tie as tie
 
 abbrev memory : tie.Start → Memory
 memory s = lent (s .args .held .now) (s .args .held-owns .now) (s .args .sets .now) (s .args .before .now)

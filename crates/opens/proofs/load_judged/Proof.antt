@@ -5,13 +5,13 @@ use Rattle.refusal.proofs.Distinct.{sound-zero, refused-number}
 use Rattle.update.specs.Memories.{Memory}
 use Rattle.update.specs.Refusals.{firstRefusal}
 use Rattle.memory.proofs.Fields.{is-loaded}
-use Rattle.opening.specs.Lent.{lent}
+use Rattle.opens.specs.Lent.{lent}
 use Rattle.judging.specs.Order.{loadNumbers}
 use Rattle.judging.proofs.Orders.{load-past, loads}
-use Rattle.opening.proofs.Answers.{load-refused, load-carried}
+use Rattle.opens.proofs.Answers.{load-refused, load-carried}
 use borrow.Author.Needs.{needs}
-use Rattle.opening.proofs.load_judged.Statement.{statement}
-use Rattle.opening.proofs.load_judged.Tie as tie
+use Rattle.opens.proofs.load_judged.Statement.{statement}
+use Rattle.opens.proofs.load_judged.Tie as tie
 
 abbrev memory : tie.Start → Memory
 memory s = lent (s .args .held .now) (s .args .held-owns .now) (s .args .sets .now) (s .args .before .now)

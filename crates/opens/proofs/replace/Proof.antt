@@ -1,12 +1,12 @@
 -- What a look at the held tree is refused by, and then the replacement over what is judged. Assumes nothing.
 use Rattle.refusal.proofs.Distinct.{sound-zero, refused-number}
 use Rattle.update.specs.Memories.{Memory}
-use Rattle.opening.specs.Lent.{lent}
+use Rattle.opens.specs.Lent.{lent}
 use Rattle.judging.proofs.Orders.{looked, replace-stopped}
-use Rattle.opening.proofs.Answers.{replace-refused}
+use Rattle.opens.proofs.Answers.{replace-refused}
 use borrow.Author.Needs.{needs}
-use Rattle.opening.proofs.replace.Statement.{statement}
-use Rattle.opening.proofs.replace.Tie as tie
+use Rattle.opens.proofs.replace.Statement.{statement}
+use Rattle.opens.proofs.replace.Tie as tie
 
 abbrev memory : tie.Start → Memory
 memory s = lent (s .args .held .now) (s .args .held-owns .now) (s .args .sets .now) (s .args .before .now)
