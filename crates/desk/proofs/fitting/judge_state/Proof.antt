@@ -1,15 +1,14 @@
 -- The line first, and then what each mode goes with. Assumes nothing.
 use mathlib.Core.Path.{_≡_, refl, sym, _∙_}
 use mathlib.Core.Bool.{Bool, true, false}
-use mathlib.Core.List.{List, [], _∷_}
+use mathlib.Core.List.{List}
 use mathlib.Core.Logic.{⊎-elim}
 use Prim.Native.Nat.{ℕ, _≤_, _<_}
 use native.Mathlib.Omega.{arith}
 use borrow.Author.Needs.{needs}
 use borrow.Author.Tests.{not-true, not-false, le-leb, lt-leb}
-use lib.Dec.{leb}
 use lib.ListN.{take}
-use Rattle.table.specs.First.{orElse, first}
+use Rattle.table.specs.First.{first}
 use Rattle.climb.proofs.Lists.{either}
 use Rattle.update.specs.Memories.{Memory}
 use Rattle.update.specs.Refusals.{firstRefusal, stepRefusal}
