@@ -1,14 +1,13 @@
 -- Chains of the places of each number, as they are built from the end. Assumes nothing.
-use Prim.Native.Nat.{ℕ, zero, suc, _+_, _*_, _/_, _%_, _<_, _≤_}
-use native.Mathlib.Decide.{ℕ-discrete}
+use Prim.Native.Nat.{ℕ, _+_, _*_, _/_, _%_, _<_, _≤_}
+use native.Mathlib.Decide.{ℕ-discrete, decLt}
 use native.Mathlib.Omega.{arith}
 use mathlib.Core.Path.{_≡_, refl, sym, ap, subst, subst₂, _∙_}
-use mathlib.Core.Bool.{Bool, true, false, cond}
+use mathlib.Core.Bool.{Bool, cond}
 use mathlib.Core.List.{List}
-use mathlib.Core.Logic.{_⊎_, inl, inr, dite}
+use mathlib.Core.Logic.{inl, inr, dite}
 use lib.ListN.{getD, length, set, length-set, replicate, length-replicate, getD-replicate}
 use lib.Seq.{getD-set-same, getD-set-other}
-use lib.Dec.{eqb}
 use borrow.Author.Tests.{eq-eqb, ne-eqb}
 use Rattle.circles.specs.Search.{Next, Chained, Blank, Linked, off, on, argOf, Arg}
 
@@ -32,6 +31,20 @@ module _ (f : ℕ → ℕ) (m n : ℕ) where
       skip = λ x h₁ h₂ h₃ e. omega arith;
     };
     step = λ x h₁ h₂ h₃. absurd (omega arith);
+  }
+
+  -- further down, where nothing is to be chained on the way
+  pub partly-down : (first next : List ℕ) (i j : ℕ) → j ≤ i → ((x : ℕ) → j ≤ x → x < i → f x < n → ⊥) → Partly f m n first next i → Partly f m n first next j
+  partly-down first next i j le none p = record {
+    lenf = p .lenf;
+    lenn = p .lenn;
+    small = omega (arith, p .small);
+    start = λ y yl. record {
+      from = omega (arith, p .start y yl .from);
+      hit = p .start y yl .hit;
+      skip = λ x h₁ h₂ h₃ h. dite (decLt x i) (λ c. none x h₁ c (omega (arith, h, yl))) (λ c. p .start y yl .skip x (omega (arith, c)) h₂ h₃ h);
+    };
+    step = λ x h₁ h₂ h₃. dite (decLt x i) (λ c. absurd (none x h₁ c h₃)) (λ c. p .step x (omega (arith, c)) h₂ h₃);
   }
 
   module _ (first next : List ℕ) (i j : ℕ) (e : i ≡ j + 1) (p : Partly f m n first next i) where
@@ -124,5 +137,5 @@ pub linked-next : {n y e : ℕ} {first next first′ next′ : List ℕ} → Lin
 linked-next (off h p q) = ap length q
 linked-next {y} {e} {first} {next} (on h p q) = ap length q ∙ length-set next e (getD first y 0)
 
-pub blank-new : (n : ℕ) → n ≤ 4096 → Blank n (replicate {A = ℕ} 4096 65535)
-blank-new n h = record { long = length-replicate {A = ℕ} 4096 65535; blank = λ y yl. getD-replicate {A = ℕ} 4096 y 65535 0 (omega arith) }
+pub blank-new : (n : ℕ) → n ≤ 4096 → Blank n (replicate {A = ℕ} 4096 65533)
+blank-new n h = record { long = length-replicate {A = ℕ} 4096 65533; blank = λ y yl. getD-replicate {A = ℕ} 4096 y 65533 0 (omega arith) }

@@ -2,6 +2,7 @@ pub mod Paths
 pub mod Stamps
 pub mod Front
 pub mod Chains
+pub mod Rolls
 pub mod Sweeps
 pub mod Rounds
 pub mod Lists

@@ -1,5 +1,5 @@
 -- The circle of a seed by two searches, whatever the order of the seeds. Assumes nothing.
-use Prim.Native.Nat.{ℕ, zero, suc, _+_, _<_, _≤_}
+use Prim.Native.Nat.{ℕ, _<_, _≤_}
 use native.Mathlib.Omega.{arith}
 use mathlib.Core.Path.{_≡_, refl, sym, ap, subst, _∙_}
 use mathlib.Core.List.{List}
@@ -8,9 +8,9 @@ use native.Mathlib.Decide.{ℕ-discrete}
 use lib.ListN.{getD, length, set, length-set}
 use lib.Seq.{getD-set-same, getD-set-other}
 use Rattle.circles.specs.Graph.{Path⁺, here, there}
-use Rattle.circles.specs.Search.{Arg, Clean, Via, Back, Found, Blank, Lone}
+use Rattle.circles.specs.Search.{Arg, Clean, Via, Back, Found, Blank}
 use Rattle.circles.specs.Labels.{Round, Reps, Stale, Took}
-use Rattle.circles.proofs.Paths.{one, join, mapped, turned, inside, closed}
+use Rattle.circles.proofs.Paths.{join, mapped, turned, inside, closed}
 
 -- where the start is allowed, so is the end
 allowed-end : (E : ℕ → ℕ → Type 0) (okay : List ℕ) (k : ℕ) {x y : ℕ} → getD okay x 0 ≡ k → Path⁺ (Via E okay k) x y → getD okay y 0 ≡ k
@@ -39,7 +39,7 @@ module _ (n : ℕ) (nl : n ≤ 4096) (a b : List ℕ) where
   pub stale-none : (m r : List ℕ) → Blank n m → Stale n m r
   stale-none m r bl = record { long = bl .long; used = λ y yl h. absurd (omega (arith, bl .blank y yl)) }
 
-  module _ (x : ℕ) (r : List ℕ) (R : Reps n a b r) (xl : x < n) (rx : getD r x 0 ≡ 65535) where
+  module _ (x : ℕ) (r : List ℕ) (R : Reps n a b r) (xl : x < n) (rx : getD r x 0 ≡ 65533) where
     pub clean-marks : (m : List ℕ) → Stale n m r → Clean n x m
     clean-marks m s = record {
       small = xl;
@@ -56,7 +56,7 @@ module _ (n : ℕ) (nl : n ≤ 4096) (a b : List ℕ) where
     }
 
     -- the circle of x has no label yet
-    free : (y : ℕ) → Round n a b x y → getD r y 0 ≡ 65535
+    free : (y : ℕ) → Round n a b x y → getD r y 0 ≡ 65533
     free y c =
         let yl : y < n = below n a b xl (c .0) in
         ⊎-elim (λ u. u) (λ u. let w : getD r x 0 ≡ getD r y 0 = R .whole y x yl xl (u .0) (circ-sym c) in absurd (omega (arith, u .0))) (R .own y yl)
@@ -76,7 +76,7 @@ module _ (n : ℕ) (nl : n ≤ 4096) (a b : List ℕ) where
               (λ c. inr (getD-set-other r x y x 0 c));
         }
 
-    module _ (m m′ r′ q′ : List ℕ) (S : Stale n m r) (f : Found n (Back (Arg n a b)) r 65535 x m m′) (g : Found n (Arg n a b) m′ x x r r′) (lq : length q′ ≡ 4096) (xd : getD a x 0 ≡ 65534 → ⊥) where
+    module _ (m m′ r′ q′ : List ℕ) (S : Stale n m r) (f : Found n (Back (Arg n a b)) r 65533 x m m′) (g : Found n (Arg n a b) m′ x x r r′) (lq : length q′ ≡ 4096) (xd : getD a x 0 ≡ 65534 → ⊥) where
       sound : (y : ℕ) → y < n → getD r′ y 0 ≡ x → Round n a b x y
       sound y yl h =
           let p : Path⁺ (Via (Arg n a b) m′ x) x y = g .sound y yl h in
@@ -85,7 +85,7 @@ module _ (n : ℕ) (nl : n ≤ 4096) (a b : List ℕ) where
 
       seen : (z : ℕ) → Round n a b x z → getD m′ z 0 ≡ x
       seen z c =
-          f .complete z (inside {E = Back (Arg n a b)} (λ v. getD r v 0 ≡ 65535) (λ y p q. free y (turned {E = Arg n a b} q, turned {E = Arg n a b} p))
+          f .complete z (inside {E = Back (Arg n a b)} (λ v. getD r v 0 ≡ 65533) (λ y p q. free y (turned {E = Arg n a b} q, turned {E = Arg n a b} p))
           (turned {E = Back (Arg n a b)} (c .1)) (turned {E = Back (Arg n a b)} (c .0)))
 
       complete : (y : ℕ) → Round n a b x y → getD r′ y 0 ≡ x
@@ -100,7 +100,7 @@ module _ (n : ℕ) (nl : n ≤ 4096) (a b : List ℕ) where
           long = g .long;
           own = λ y yl. ⊎-elim
               (λ h. inr (omega arith, subst (λ (v : ℕ). Round n a b v y) (sym h) (sound y yl h)))
-              (λ h. subst (λ (v : ℕ). (v ≡ 65535) ⊎ ((v < n) × Round n a b v y)) (sym h) (R .own y yl))
+              (λ h. subst (λ (v : ℕ). (v ≡ 65533) ⊎ ((v < n) × Round n a b v y)) (sym h) (R .own y yl))
               (g .frame y);
           whole = λ y z yl zl h c. ⊎-elim
               (λ u. complete z (circ-trans (sound y yl u) c) ∙ sym u)

@@ -1,8 +1,8 @@
 -- What a search over marks and a queue finds, and chains of places. Assumes nothing.
-use Prim.Native.Nat.{ℕ, zero, suc, _+_, _*_, _/_, _%_, _<_, _≤_}
+use Prim.Native.Nat.{ℕ, suc, _+_, _/_, _%_, _<_, _≤_}
 use mathlib.Core.Path.{_≡_}
 use mathlib.Core.List.{List, [], _∷_}
-use mathlib.Core.Bool.{Bool, true, false, cond}
+use mathlib.Core.Bool.{true, false, cond}
 use mathlib.Core.Logic.{_⊎_}
 use lib.ListN.{getD, set, length}
 use lib.Dec.{eqb}
@@ -37,10 +37,28 @@ pub data Linked (n y e : ℕ) (first next first′ next′ : List ℕ) : Type 0 
   off : n ≤ y → first′ ≡ first → next′ ≡ next → Linked n y e first next first′ next′
   on : y < n → first′ ≡ set first y e → next′ ≡ set next e (getD first y 0) → Linked n y e first next first′ next′
 
--- the first n are none
+-- the first n are none, 65533
 pub record Blank (n : ℕ) (l : List ℕ) : Type 0 where
   pub long : length l ≡ 4096
-  pub blank : (y : ℕ) → y < n → getD l y 0 ≡ 65535
+  pub blank : (y : ℕ) → y < n → getD l y 0 ≡ 65533
+
+-- ---- the list of the slots of a kind
+
+-- y is declared
+abbrev pub Stated : List ℕ → ℕ → Type 0
+Stated a y = getD a y 0 ≡ 65534 → ⊥
+
+-- y has a number of a slot
+abbrev pub Marked : ℕ → List ℕ → ℕ → Type 0
+Marked n l y = getD l y 0 < n
+
+-- the first d of the list are the slots below n of which P holds, rising
+pub record Roll (P : ℕ → Type 0) (n : ℕ) (slots : List ℕ) (d : ℕ) : Type 0 where
+  pub few : d ≤ n
+  pub within : (k : ℕ) → k < d → getD slots k 0 < n
+  pub is : (k : ℕ) → k < d → P (getD slots k 0)
+  pub rises : (j k : ℕ) → j < k → k < d → getD slots j 0 < getD slots k 0
+  pub all : (y : ℕ) → y < n → P y → (k : ℕ) × (k < d) × (getD slots k 0 ≡ y)
 
 -- ---- searches
 

@@ -3,8 +3,8 @@ ghost use Prim.Native.Nat.{ℕ, _+_, _*_, _<_, _≤_};
 ghost use lib.ListN.{getD, length};
 ghost use Rattle.circles.specs.Arrays.{Given, graphOf, over};
 ghost use Rattle.circles.specs.Ranked.{labelsOf};
-ghost use Rattle.circles.specs.Labels.{Says, Reps, Stale, Took, Left, Unlabelled, Seeded, LowOf, Lowered, Kin};
-ghost use Rattle.circles.specs.Search.{Arg, argOf, placeOf, stamped, Visited, Clean, Found, Lone, Linked, Chained, Swept, Blank, Room, Back};
+ghost use Rattle.circles.specs.Labels.{Reps, Stale, Took, Unlabelled, Seeded, Cleared, Lowered, Kin};
+ghost use Rattle.circles.specs.Search.{Arg, argOf, placeOf, stamped, Visited, Clean, Found, Lone, Linked, Chained, Swept, Blank, Stated, Marked, Roll, Room, Back};
 use crate::order::leaving_order;
 
 pub fn wide(x: u16) -> usize
@@ -44,14 +44,22 @@ pub fn chain_readers(
     }
 }
 
-// Chains the slots of each label.
-pub fn chain_members(n: usize, rep: &[u16; 4096], low: &mut [u16], after: &mut [u16])
-    requires { ⌜ (n ≤ 4096) × Blank n (now low) × (n ≤ length (now after)) ⌝ }
+// Chains the slots of each label, by the list of those that have one.
+fn chain_members(
+    n: usize,
+    count: usize,
+    slots: &[u16; 4096],
+    rep: &[u16; 4096],
+    low: &mut [u16],
+    after: &mut [u16],
+)
+    requires { ⌜ (n ≤ 4096) × Blank n (now low) × (n ≤ length (now after)) × Roll (Marked n (now rep)) n (now slots) count ⌝ }
     ensures { λ _. ⌜ Chained (placeOf (now (rep .entry))) n n (now (low .exit)) (now (after .exit)) ⌝ }
 {
-    let mut x = n;
-    while 0 < x {
-        x -= 1;
+    let mut k = count;
+    while 0 < k {
+        k -= 1;
+        let x = wide(slots[k]);
         link(n, rep[x], x, low, after);
     }
 }
@@ -210,10 +218,10 @@ fn take_circle(
 )
     requires { ⌜ (n ≤ 4096) × Chained (argOf (now a) (now b)) (2 * n) n (now first) (now next) ⌝ }
     requires { ⌜ Reps n (now a) (now b) (now rep) × Stale n (now seen) (now rep) × (length (now queue) ≡ 4096) ⌝ }
-    requires { ⌜ (x < n) × (getD (now rep) x 0 ≡ 65535) × (getD (now a) x 0 ≡ 65534 → ⊥) ⌝ }
+    requires { ⌜ (x < n) × (getD (now rep) x 0 ≡ 65533) × (getD (now a) x 0 ≡ 65534 → ⊥) ⌝ }
     ensures { λ _. ⌜ Took n (now (a .entry)) (now (b .entry)) x (now (rep .entry)) (now (rep .exit)) (now (seen .exit)) (now (queue .exit)) ⌝ }
 {
-    let t = mark_readers(n, a, b, first, next, x, rep, 65535, seen, queue);
+    let t = mark_readers(n, a, b, first, next, x, rep, 65533, seen, queue);
     if t == 1 {
         rep[x as usize] = x;
         return;
@@ -244,34 +252,20 @@ fn try_circle(
     if a[i] == 65534 {
         return;
     }
-    if rep[i] != 65535 {
+    if rep[i] != 65533 {
         return;
     }
     take_circle(n, a, b, first, next, x, rep, seen, queue);
 }
 
-// Whether slot i is declared and has no label.
-fn is_left(a: &[u16; 4096], rep: &[u16; 4096], i: usize) -> bool
-    requires { ⌜ i < 4096 ⌝ }
-    ensures { λ r. ⌜ Says (Left (now (a .entry)) (now (rep .entry)) i) r ⌝ }
-{
-    if a[i] == 65534 {
-        return false;
-    }
-    if rep[i] == 65535 {
-        return true;
-    }
-    false
-}
-
-// The first such slot from the place given on, or what is past the end.
-fn unlabelled(n: usize, a: &[u16; 4096], rep: &[u16; 4096], from: usize) -> usize
-    requires { ⌜ (n ≤ 4096) × (from ≤ n) ⌝ }
-    ensures { λ r. ⌜ Unlabelled n (now (a .entry)) (now (rep .entry)) from r ⌝ }
+// The first place of the list, from the one given on, whose slot has no label, or what is past the end.
+fn unlabelled(count: usize, slots: &[u16; 4096], rep: &[u16; 4096], from: usize) -> usize
+    requires { ⌜ (count ≤ 4096) × (from ≤ count) × ((k : ℕ) → k < count → getD (now slots) k 0 < 4096) ⌝ }
+    ensures { λ r. ⌜ Unlabelled count (now (slots .entry)) (now (rep .entry)) from r ⌝ }
 {
     let mut i = from;
-    while i < n {
-        if is_left(a, rep, i) {
+    while i < count {
+        if rep[wide(slots[i])] == 65533 {
             return i;
         }
         i += 1;
@@ -279,24 +273,25 @@ fn unlabelled(n: usize, a: &[u16; 4096], rep: &[u16; 4096], from: usize) -> usiz
     i
 }
 
-// What is to be tried next, and where the order and the search for what is left stand then.
+// What is to be tried next, and where the order and the list stand then.
 struct Seed {
     x: u16,
     i: usize,
     j: usize,
 }
 
-// First what the order lists, whatever that is; then what is left.
+// First what the order has, whatever that is; then what is left of the list.
 fn next_seed(
     n: usize,
-    a: &[u16; 4096],
+    count: usize,
+    slots: &[u16; 4096],
     order: &[u16; 4096],
     rep: &[u16; 4096],
     i: usize,
     j: usize,
 ) -> Seed
-    requires { ⌜ (n ≤ 4096) × (j < n) ⌝ }
-    ensures { λ r. ⌜ Seeded n (now (a .entry)) (now (rep .entry)) i j (r .x) (r .i) (r .j) ⌝ }
+    requires { ⌜ (n ≤ 4096) × (count ≤ 4096) × (j < count) × ((k : ℕ) → k < count → getD (now slots) k 0 < 4096) ⌝ }
+    ensures { λ r. ⌜ Seeded n count (now (slots .entry)) (now (rep .entry)) i j (r .x) (r .i) (r .j) ⌝ }
 {
     if i < n {
         return Seed {
@@ -305,28 +300,30 @@ fn next_seed(
             j: j,
         };
     }
-    let k = unlabelled(n, a, rep, j);
-    if n <= k {
+    let k = unlabelled(count, slots, rep, j);
+    if count <= k {
         return Seed {
             x: 65535,
             i: i,
-            j: n,
+            j: count,
         };
     }
     Seed {
-        x: k as u16,
+        x: slots[k],
         i: i,
         j: k + 1,
     }
 }
 
-// Labels every circle of declared slots, each by one of its own, in the order given from a place on and then in any.
+// Labels every circle of declared slots, each by one of its own, in the order given from a place on and then by the list.
 fn label_circles(
     n: usize,
     a: &[u16; 4096],
     b: &[u16; 4096],
     first: &[u16; 4096],
     next: &[u16; 8192],
+    count: usize,
+    slots: &[u16; 4096],
     order: &[u16; 4096],
     from: usize,
     rep: &mut [u16; 4096],
@@ -334,75 +331,91 @@ fn label_circles(
     queue: &mut [u16; 4096],
 )
     requires { ⌜ (n ≤ 4096) × Chained (argOf (now a) (now b)) (2 * n) n (now first) (now next) ⌝ }
-    requires { ⌜ Blank n (now rep) × Blank n (now seen) × (length (now queue) ≡ 4096) ⌝ }
-    ensures { λ _. ⌜ Reps n (now (a .entry)) (now (b .entry)) (now (rep .exit)) × ((y : ℕ) → y < n → (getD (now (a .entry)) y 0 ≡ 65534 → ⊥) → getD (now (rep .exit)) y 0 < n) ⌝ }
+    requires { ⌜ Blank n (now rep) × Blank n (now seen) × (length (now queue) ≡ 4096) × Roll (Stated (now a)) n (now slots) count ⌝ }
+    ensures { λ _. ⌜ Reps n (now (a .entry)) (now (b .entry)) (now (rep .exit)) × ((y : ℕ) → y < n → Stated (now (a .entry)) y → Marked n (now (rep .exit)) y) × (length (now (queue .exit)) ≡ 4096) ⌝ }
 {
     let mut i = from;
     let mut j: usize = 0;
-    while j < n {
-        let s = next_seed(n, a, order, &*rep, i, j);
+    while j < count {
+        let s = next_seed(n, count, slots, order, &*rep, i, j);
         i = s.i;
         j = s.j;
         try_circle(n, a, b, first, next, s.x, rep, seen, queue);
     }
 }
 
-// The least slot of the label r, or none where r is none.
-fn least_of(n: usize, low: &[u16; 4096], r: u16) -> u16
-    requires { ⌜ n ≤ 4096 ⌝ }
-    ensures { λ l. ⌜ LowOf n (now (low .entry)) r l ⌝ }
-{
-    let i = wide(r);
-    if n <= i {
-        return 65535;
-    }
-    low[i]
-}
-
-// The least of each one's circle, by the chains of labels.
-fn least_labels(n: usize, rep: &[u16; 4096], low: &[u16; 4096], label: &mut [u16])
-    requires { ⌜ (n ≤ 4096) × (n ≤ length (now label)) ⌝ }
-    ensures { λ _. ⌜ Lowered n (now (rep .entry)) (now (low .entry)) (now (label .entry)) n (now (label .exit)) ⌝ }
+// No slot has a label.
+fn clear(n: usize, label: &mut [u16])
+    requires { ⌜ n ≤ length (now label) ⌝ }
+    ensures { λ _. ⌜ Cleared (now (label .entry)) n (now (label .exit)) ⌝ }
 {
     let mut x: usize = 0;
     while x < n {
-        label[x] = least_of(n, low, rep[x]);
+        label[x] = 65535;
         x += 1;
     }
 }
 
-// The label of each slot's circle, and the next member of it.
+// The least of each one's circle, by the chains of labels and the list of those that have one.
+fn least_labels(
+    n: usize,
+    count: usize,
+    slots: &[u16; 4096],
+    rep: &[u16; 4096],
+    low: &[u16; 4096],
+    label: &mut [u16],
+)
+    requires { ⌜ (n ≤ 4096) × (n ≤ length (now label)) × Roll (Marked n (now rep)) n (now slots) count ⌝ }
+    requires { ⌜ ((y : ℕ) → y < n → getD (now label) y 0 ≡ 65535) ⌝ }
+    ensures { λ _. ⌜ Lowered n (now (rep .entry)) (now (low .entry)) (now (label .entry)) (now (label .exit)) ⌝ }
+{
+    let mut k: usize = 0;
+    while k < count {
+        let x = wide(slots[k]);
+        label[x] = low[wide(rep[x])];
+        k += 1;
+    }
+}
+
+// The label of each slot's circle, the next member of it, and the list of the slots that have a label: how many they are.
 pub fn circle_labels(
     n: usize,
     a: &[u16; 4096],
     b: &[u16; 4096],
     first: &[u16; 4096],
     next: &[u16; 8192],
+    slots: &mut [u16; 4096],
+    queue: &mut [u16; 4096],
     label: &mut [u16],
-    after: &mut [u16],
-)
-    requires { ⌜ Given n (now a) (now b) × (n ≤ length (now label)) × (n ≤ length (now after)) × Chained (argOf (now a) (now b)) (2 * n) n (now first) (now next) ⌝ }
+    after: &mut [u16; 4096],
+) -> usize
+    requires { ⌜ Given n (now a) (now b) × (n ≤ length (now label)) × Chained (argOf (now a) (now b)) (2 * n) n (now first) (now next) ⌝ }
+    requires { ⌜ (length (now slots) ≡ 4096) × (length (now queue) ≡ 4096) × (length (now after) ≡ 4096) ⌝ }
     ensures { λ _. ⌜ (now (label .exit) ≡ over (labelsOf (graphOf n (now (a .entry)) (now (b .entry)))) (now (label .entry))) × Kin n (now (label .exit)) (now (after .exit)) ⌝ }
+    ensures { λ r. ⌜ (length (now (queue .exit)) ≡ 4096) × Roll (Marked n (now (label .exit))) n (now (slots .exit)) r ⌝ }
 {
-    let mut order = [65535u16; 4096];
-    let mut queue = [0u16; 4096];
-    let mut stage = [0u16; 4096];
-    let from = leaving_order(n, a, b, &mut order, &mut queue, &mut stage);
-    let mut rep = [65535u16; 4096];
-    let mut seen = [65535u16; 4096];
+    let mut stage = [4u16; 4096];
+    let w = leaving_order(n, a, b, slots, after, queue, &mut stage);
+    let count = w.count;
+    let mut rep = [65533u16; 4096];
+    let mut seen = [65533u16; 4096];
     label_circles(
         n,
         a,
         b,
         first,
         next,
-        &order,
-        from,
+        count,
+        &*slots,
+        &*after,
+        w.from,
         &mut rep,
         &mut seen,
-        &mut queue,
+        queue,
     );
-    let mut low = [65535u16; 4096];
-    chain_members(n, &rep, &mut low, after);
-    least_labels(n, &rep, &low, label);
+    let mut low = [65533u16; 4096];
+    chain_members(n, count, &*slots, &rep, &mut low, after);
+    clear(n, label);
+    least_labels(n, count, &*slots, &rep, &low, label);
+    count
 }

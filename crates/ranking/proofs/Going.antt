@@ -172,7 +172,7 @@ module _ (n : ℕ) (a b label after taken tk : List ℕ) (Q : Given n a b) (N : 
     found : r < n → firstOf (takeable G L tk) (slots G) (G .size) ≡ r
     found rl =
         first-is (takeable G L tk) 0 n n r (omega arith) (omega arith) (can-take r (omega (arith, Q .few)) (P .hit (omega (arith, Q .few))))
-        (λ j h₁ h₂. not-true-false (takeable G L tk j) (λ e. P .none j (omega (arith, Q .few)) h₂ (was-ready j (omega arith) e)))
+        (λ j h₁ h₂. not-true-false (takeable G L tk j) (λ e. P .none j (omega (arith, Q .few)) (omega arith) (was-ready j (omega arith) e)))
 
     missed : n ≤ r → firstOf (takeable G L tk) (slots G) (G .size) ≡ n
     missed rl =

@@ -1,5 +1,5 @@
 -- Cursors are set, and a circle is taken. Assumes nothing.
-use Prim.Native.Nat.{ℕ, _+_, _-_, _≤_, _<_, _/_, _%_, _*_}
+use Prim.Native.Nat.{ℕ, _+_, _≤_, _<_, _/_, _%_}
 use native.Mathlib.Omega.{arith}
 use native.Mathlib.Decide.{ℕ-discrete, decLt}
 use mathlib.Core.Path.{_≡_, refl, sym, ap, subst, _∙_}
@@ -7,9 +7,9 @@ use mathlib.Core.List.{List}
 use mathlib.Core.Logic.{_⊎_, inl, inr, ⊎-elim, dite}
 use lib.ListN.{length, getD, set, length-set, replicate, length-replicate, getD-replicate, List·getD-eq-default}
 use lib.Seq.{getD-set-same, getD-set-other}
-use Rattle.circles.specs.Search.{Arg}
+use Rattle.circles.specs.Search.{Arg, Marked, Roll}
 use Rattle.circles.specs.Labels.{Kin}
-use Rattle.ranking.specs.Turns.{Settled, Free, Advanced, In, Bits, Put, Pulled, Cursor, Sure, Cursors, Moved, SureAt, Turn, Outset, digit}
+use Rattle.ranking.specs.Turns.{Settled, Free, Advanced, In, Put, Pulled, Cursor, Sure, Cursors, Moved, SureAt, Turn, Outset, digit}
 use Rattle.ranking.proofs.Words.{digit-zero}
 
 -- ---- the cursors are set, slot by slot
@@ -89,6 +89,63 @@ module _ (n : ℕ) (a b label after taken cur ready : List ℕ) (i : ℕ) (K : K
           (λ e. P .stays l (omega (arith, hl, K .few)) (T .all-ready l (omega (arith, e)) hl o t (omega (arith, c, getD-set-other cur i l d 0 e))));
       done = λ l h o t. absurd (un l t);
     }
+
+-- ---- the cursors are set, by the list of the slots that have a label
+
+-- further up, where no circle is led from on the way
+turn-up : (n : ℕ) (a b label taken cur ready : List ℕ) (i j : ℕ) → i ≤ j → ((l : ℕ) → i ≤ l → l < j → l < n → getD label l 0 ≡ l → ⊥) → Turn n a b label taken cur ready i → Turn n a b label taken cur ready j
+turn-up n a b label taken cur ready i j le none T = record {
+  flags = T .flags;
+  long = T .long;
+  bits = T .bits;
+  each = λ l h hl o. T .each l (below l h hl o) hl o;
+  sure = λ l h hl o. T .sure l (below l h hl o) hl o;
+  is-ready = λ l h e. let w = T .is-ready l h e in (omega (arith, w .0), w .1, w .2, w .3, w .4);
+  all-ready = λ l h hl o t c. T .all-ready l (below l h hl o) hl o t c;
+  done = T .done;
+}
+  where
+    below : (l : ℕ) → l < j → l < n → getD label l 0 ≡ l → l < i
+    below l h hl o = dite (decLt l i) (λ c. c) (λ c. absurd (none l (omega (arith, c)) h hl o))
+
+-- the slots below `at` are looked at; the list has the others from its place k on
+pub record Started (n : ℕ) (a b label taken cur ready slots : List ℕ) (d k : ℕ) : Type 0 where
+  pub at : ℕ
+  pub few : at ≤ n
+  pub turn : Turn n a b label taken cur ready at
+  pub ahead : (j : ℕ) → k ≤ j → j < d → at ≤ getD slots j 0
+  pub left : (y : ℕ) → at ≤ y → y < n → getD label y 0 ≡ y → (j : ℕ) × (k ≤ j) × (j < d) × (getD slots j 0 ≡ y)
+
+module _ (n : ℕ) (a b label taken slots : List ℕ) (d : ℕ) (R : Roll (Marked n label) n slots d) where
+  pub started-none : (cur ready : List ℕ) → Outset taken cur ready → Started n a b label taken cur ready slots d 0
+  started-none cur ready o = record {
+    at = 0;
+    few = omega arith;
+    turn = turn-none n a b label taken cur ready o;
+    ahead = λ j h₁ h₂. omega arith;
+    left = λ y h₁ h₂ e. let w = R .all y h₂ (omega (arith, e)) in (w .0, omega arith, w .1, w .2);
+  }
+
+  module _ (cur ready : List ℕ) (k : ℕ) (S : Started n a b label taken cur ready slots d k) where
+    pub started-at : k < d → Turn n a b label taken cur ready (getD slots k 0)
+    started-at kd = turn-up n a b label taken cur ready (S .at) (getD slots k 0) (S .ahead k (omega arith) kd)
+        (λ l h₁ h₂ h₃ e. let w = S .left l h₁ h₃ e in dite (ℕ-discrete (w .0) k)
+        (λ c. omega (arith, h₂, w .3, ap (λ (u : ℕ). getD slots u 0) c))
+        (λ c. omega (arith, h₂, w .3, R .rises k (w .0) (omega (arith, c, w .1)) (w .2))))
+        (S .turn)
+
+    pub started-more : (cur′ ready′ : List ℕ) → k < d → Turn n a b label taken cur′ ready′ (getD slots k 0 + 1) → Started n a b label taken cur′ ready′ slots d (k + 1)
+    started-more cur′ ready′ kd T = record {
+      at = getD slots k 0 + 1;
+      few = omega (arith, R .within k kd);
+      turn = T;
+      ahead = λ j h₁ h₂. omega (arith, R .rises k j (omega arith) h₂);
+      left = λ y h₁ h₂ e. let w = S .left y (omega (arith, h₁, S .ahead k (omega arith) kd)) h₂ e in
+          (w .0, dite (ℕ-discrete (w .0) k) (λ c. absurd (omega (arith, h₁, w .3, ap (λ (u : ℕ). getD slots u 0) c))) (λ c. omega (arith, c, w .1)), w .2, w .3);
+    }
+
+    pub started-all : d ≤ k → Turn n a b label taken cur ready n
+    started-all h = turn-up n a b label taken cur ready (S .at) n (S .few) (λ l h₁ h₂ h₃ e. let w = S .left l h₁ h₃ e in omega (arith, h, w .1, w .2)) (S .turn)
 
 -- ---- a circle is taken
 
@@ -194,16 +251,21 @@ zeros n y = dite (decLt y n)
     (λ c. getD-replicate {A = ℕ} n y 0 0 c)
     (λ c. List·getD-eq-default (replicate {A = ℕ} n 0) 0 {n = y} (omega (arith, c, length-replicate {A = ℕ} n 0)))
 
-pub outset-new : Outset (replicate {A = ℕ} 4096 0) (replicate {A = ℕ} 4096 0) (replicate {A = ℕ} 65 0)
-outset-new = record {
-  flags = length-replicate {A = ℕ} 4096 0;
-  long = length-replicate {A = ℕ} 4096 0;
+pub untaken-new : (y : ℕ) → getD (replicate {A = ℕ} 4096 2) y 0 ≡ 1 → ⊥
+untaken-new y e = dite (decLt y 4096)
+    (λ c. omega (arith, e, getD-replicate {A = ℕ} 4096 y 2 0 c))
+    (λ c. omega (arith, e, List·getD-eq-default (replicate {A = ℕ} 4096 2) 0 {n = y} (omega (arith, c, length-replicate {A = ℕ} 4096 2))))
+
+pub outset-new : (cur : List ℕ) → length cur ≡ 4096 → Outset (replicate {A = ℕ} 4096 2) cur (replicate {A = ℕ} 65 0)
+outset-new cur h = record {
+  flags = length-replicate {A = ℕ} 4096 2;
+  long = h;
   bits = record {
     long = length-replicate {A = ℕ} 65 0;
     fits = λ k. omega (arith, zeros 65 k);
     told = λ k _ h. absurd (omega (arith, h, zeros 65 k));
     true = λ k _ h. absurd (omega (arith, h, ap (digit k) (zeros 65 64), digit-zero k));
   };
-  untaken = λ y e. omega (arith, e, zeros 4096 y);
+  untaken = untaken-new;
   unready = λ y _ e. omega (arith, e, ap (digit (y % 64)) (zeros 65 (y / 64)), digit-zero (y % 64));
 }

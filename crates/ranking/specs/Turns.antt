@@ -1,6 +1,7 @@
 -- What the ranking says as it goes. Assumes nothing.
 use Prim.Native.Nat.{ℕ, zero, suc, _-_, _<_, _≤_, _/_, _%_}
 use mathlib.Core.Path.{_≡_}
+use mathlib.Core.Bool.{Bool, true, false}
 use mathlib.Core.List.{List}
 use mathlib.Core.Logic.{_⊎_}
 use lib.ListN.{getD, length}
@@ -8,6 +9,11 @@ use lib.Dec.{eqb}
 use Rattle.circles.specs.Graph.{Graph}
 use Rattle.circles.specs.Ranked.{keep, upFrom, labelAt, labelsOf, ranked}
 use Rattle.circles.specs.Arrays.{graphOf, joined, endsFrom, over}
+
+-- a Bool says whether P holds
+pub record Says (P : Type 0) (r : Bool) : Type 0 where
+  pub if-true : r ≡ true → P
+  pub if-false : r ≡ false → P → ⊥
 
 -- y, an argument of the circle l, is none, or in l, or in a taken circle
 abbrev pub Settled : ℕ → List ℕ → List ℕ → ℕ → ℕ → Type 0

@@ -22,10 +22,36 @@ pub fn rank_circles(
     requires { ⌜ Given n (now a) (now b) × (n ≤ length (now label)) × (n ≤ length (now members)) × (n + 1 ≤ length (now ends)) ⌝ }
     ensures { λ r. ⌜ Laid (graphOf n (now (a .entry)) (now (b .entry))) (now (label .entry)) (now (members .entry)) (now (ends .entry)) (now (label .exit)) (now (members .exit)) (now (ends .exit)) r ⌝ }
 {
-    let mut first = [65535u16; 4096];
-    let mut next = [0u16; 8192];
+    // No array is filled with one byte over and over: plain stores then fill it, which are counted alike everywhere.
+    let mut first = [65533u16; 4096];
+    let mut next = [1u16; 8192];
     chain_readers(n, a, b, &mut first, &mut next);
-    let mut after = [65535u16; 4096];
-    circle_labels(n, a, b, &first, &next, label, &mut after);
-    rank_labelled(n, a, b, &first, &next, label, &after, members, ends)
+    let mut slots = [1u16; 4096];
+    let mut queue = [1u16; 4096];
+    let mut after = [1u16; 4096];
+    let listed = circle_labels(
+        n,
+        a,
+        b,
+        &first,
+        &next,
+        &mut slots,
+        &mut queue,
+        label,
+        &mut after,
+    );
+    rank_labelled(
+        n,
+        a,
+        b,
+        &first,
+        &next,
+        label,
+        &after,
+        listed,
+        &slots,
+        &mut queue,
+        members,
+        ends,
+    )
 }

@@ -6,9 +6,9 @@ ghost use lib.Seq.{sets};
 ghost use mathlib.Core.List.{[], _++_};
 ghost use Rattle.circles.specs.Ranked.{ranking, ranked};
 ghost use Rattle.circles.specs.Arrays.{Given, graphOf, over, Laid};
-ghost use Rattle.circles.specs.Search.{Arg, Chained, argOf};
-ghost use Rattle.circles.specs.Labels.{Says, Kin};
-ghost use Rattle.ranking.specs.Turns.{Settled, Free, Advanced, In, Bits, Put, Pulled, Cursors, Moved, SureAt, Turn, Outset, membersFrom, Agrees, Listed};
+ghost use Rattle.circles.specs.Search.{Arg, Chained, argOf, Marked, Roll};
+ghost use Rattle.circles.specs.Labels.{Kin};
+ghost use Rattle.ranking.specs.Turns.{Says, Settled, Free, Advanced, In, Bits, Put, Pulled, Cursors, Moved, SureAt, Turn, Outset, membersFrom, Agrees, Listed};
 use circles::wide;
 
 // Whether y, an argument of the circle l, is none, or in l, or in a taken circle.
@@ -238,7 +238,7 @@ fn start_cursor(
     }
 }
 
-// Before the first turn: each circle's cursor stands at its first member that is not free.
+// Before the first turn, by the list of the slots that have a label: each circle's cursor stands at its first member that is not free.
 fn start_turns(
     n: usize,
     a: &[u16; 4096],
@@ -246,16 +246,18 @@ fn start_turns(
     label: &[u16],
     after: &[u16; 4096],
     taken: &[u16; 4096],
+    listed: usize,
+    slots: &[u16; 4096],
     cur: &mut [u16; 4096],
     ready: &mut [u64; 65],
 )
-    requires { ⌜ Kin n (now label) (now after) × Outset (now taken) (now cur) (now ready) ⌝ }
+    requires { ⌜ Kin n (now label) (now after) × Outset (now taken) (now cur) (now ready) × Roll (Marked n (now label)) n (now slots) listed ⌝ }
     ensures { λ _. ⌜ Turn n (now (a .entry)) (now (b .entry)) (now (label .entry)) (now (taken .entry)) (now (cur .exit)) (now (ready .exit)) n ⌝ }
 {
-    let mut l: usize = 0;
-    while l < n {
-        start_cursor(n, a, b, label, after, taken, l as u16, cur, ready);
-        l += 1;
+    let mut k: usize = 0;
+    while k < listed {
+        start_cursor(n, a, b, label, after, taken, slots[k], cur, ready);
+        k += 1;
     }
 }
 
@@ -296,7 +298,7 @@ fn take_circles(
     count
 }
 
-// The ranking over labels and chains: arrays of its own for cursors and what is taken and ready.
+// The ranking over labels, chains and the list of the slots that have a label: arrays of its own for what is taken and ready.
 pub fn rank_labelled(
     n: usize,
     a: &[u16; 4096],
@@ -305,17 +307,30 @@ pub fn rank_labelled(
     next: &[u16; 8192],
     label: &[u16],
     after: &[u16; 4096],
+    listed: usize,
+    slots: &[u16; 4096],
+    cur: &mut [u16; 4096],
     members: &mut [u16],
     ends: &mut [u16],
 ) -> usize
     requires { ⌜ Given n (now a) (now b) × Kin n (now label) (now after) × Agrees n (now a) (now b) (now label) × Chained (argOf (now a) (now b)) (2 * n) n (now first) (now next) ⌝ }
-    requires { ⌜ (n ≤ length (now members)) × (n + 1 ≤ length (now ends)) ⌝ }
+    requires { ⌜ Roll (Marked n (now label)) n (now slots) listed × (length (now cur) ≡ 4096) × (n ≤ length (now members)) × (n + 1 ≤ length (now ends)) ⌝ }
     ensures { λ r. ⌜ Listed (graphOf n (now (a .entry)) (now (b .entry))) (now (members .entry)) (now (ends .entry)) (now (members .exit)) (now (ends .exit)) r ⌝ }
 {
-    let mut taken = [0u16; 4096];
-    let mut cur = [0u16; 4096];
+    let mut taken = [2u16; 4096];
     let mut ready = [0u64; 65];
-    start_turns(n, a, b, label, after, &taken, &mut cur, &mut ready);
+    start_turns(
+        n,
+        a,
+        b,
+        label,
+        after,
+        &taken,
+        listed,
+        slots,
+        cur,
+        &mut ready,
+    );
     take_circles(
         n,
         a,
@@ -325,7 +340,7 @@ pub fn rank_labelled(
         label,
         after,
         &mut taken,
-        &mut cur,
+        cur,
         &mut ready,
         members,
         ends,

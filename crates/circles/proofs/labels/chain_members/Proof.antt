@@ -1,29 +1,50 @@
--- `chain_members` meets its contract: the chains of the slots from x on. Assumes nothing.
-use Rattle.circles.proofs.Chains.{Partly, partly-none, partly-more, partly-all, linked-first, linked-next}
-use Rattle.circles.specs.Search.{placeOf}
-use lib.ListN.{length, getD}
-use mathlib.Core.Path.{_≡_, refl, sym, _∙_}
-use Prim.Native.Nat.{ℕ, _+_, _-_, _≤_}
-use borrow.Author.Needs.{needs}
+-- `chain_members` meets its contract: the chains of the slots of the list from its place k on. Assumes nothing.
+use Prim.Native.Nat.{ℕ, _-_, _≤_, _<_}
 use native.Mathlib.Omega.{arith}
+use mathlib.Core.Path.{_≡_, refl, subst, _∙_}
+use lib.ListN.{length, getD}
+use Rattle.circles.specs.Search.{Linked}
+use Rattle.circles.proofs.Chains.{linked-first, linked-next}
+use Rattle.circles.proofs.Rolls.{Down, down-none, down-more, down-all}
 use Rattle.circles.proofs.labels.chain_members.Statement.{statement}
 use Rattle.circles.proofs.labels.chain_members.Tie as tie
 
 abbrev Inv-loop : tie.InvT-loop
-Inv-loop n rep low₀ after₀ x₀ low after x = Partly (placeOf rep) n n low after x × (x ≤ n) × (length low ≡ length low₀) × (length after ≡ length after₀)
+Inv-loop n count slots rep low₀ after₀ k₀ low after k = Down n rep slots low after k × (k ≤ count) × (length low ≡ length low₀) × (length after ≡ length after₀)
 
 abbrev μ-loop : tie.MeasureT-loop
-μ-loop n rep low₀ after₀ x₀ low after x = x
+μ-loop n count slots rep low₀ after₀ k₀ low after k = k
+
+slot : (c : tie.After-wide Inv-loop μ-loop) → c .wide .result < c .before .before .before .before .before .before .args .n
+slot c = omega (arith, c .wide .ensures, c .before .before .before .before .before .before .pre .3 .within (c .before .before .before .loop .k - 1) (omega (arith, c .before .before .before .loop .inv .1, c .before .before .loop-test .taken)))
 
 loop-holds : tie.Need-loop-holds Inv-loop μ-loop
-loop-holds c = (partly-none (placeOf (c .before .before .args .rep .now)) (c .before .before .args .n) (c .before .before .args .n) (c .before .before .args .low .now) (c .before .before .args .after .now) (c .before .before .pre .0) (omega (arith, c .before .before .pre .0)) (c .before .before .pre .1) (c .before .before .pre .2), omega arith, refl, refl)
+loop-holds c = let s = c .before .before in let g = s .args in (down-none (g .n) (g .count) (g .rep .now) (g .slots .now) (s .pre .3) (g .low .now) (g .after .now) (s .pre .0) (s .pre .1) (s .pre .2), omega arith, refl, refl)
+
+element-copy-out-wide : tie.Need-element-copy-out-wide Inv-loop μ-loop
+element-copy-out-wide c = omega (arith, c .before .before .before .before .pre .3 .few, c .before .loop .inv .1, c .before .before .before .before .pre .0)
+
+mul-link : tie.Need-mul-link Inv-loop μ-loop
+mul-link c = omega (arith, slot c, c .before .before .before .before .before .before .pre .0)
+
+element-copy-out-link : tie.Need-element-copy-out-link Inv-loop μ-loop
+element-copy-out-link c = omega (arith, slot c, c .before .before .before .before .before .before .pre .0)
 
 link-requires : tie.Need-link-requires Inv-loop μ-loop
-link-requires c κs = let i = c .before .before .before .before .loop .inv in (i .0 .lenf, omega (arith, i .0 .lenn, i .1, c .before .before .before .loop-test .taken), omega (arith, c .before .before .before .before .before .before .before .pre .0, i .1))
+link-requires c κs = let i = c .before .before .before .before .before .before .loop .inv .0 .chains in let x = slot (c .before .before .before) in (i .lenf, omega (arith, i .lenn, x), omega (arith, x, c .before .before .before .before .before .before .before .before .before .pre .0))
 
 loop-again : tie.Need-loop-again Inv-loop μ-loop
-loop-again c = let s = c .before .before .before .before .before .before .before .before .before .before .before .before .args in let l = c .before .before .before .before .before .before .before .before .before .loop in
-    (partly-more (placeOf (s .rep .now)) (s .n) (s .n) (l .low) (l .after) (l .x) (l .x - 1) (omega (arith, c .before .before .before .before .before .before .before .before .loop-test .taken)) (l .inv .0) (getD (s .rep .now) (l .x - 1) 0) (c .before .before .before .before .link .last .1 .1 .1 .0) (c .before .before .before .before .link .last .1 .1 .1 .1 .0) refl (c .before .before .before .before .link .ensures), omega (arith, l .inv .1), linked-first (c .before .before .before .before .link .ensures) ∙ l .inv .2, linked-next (c .before .before .before .before .link .ensures) ∙ l .inv .3)
+loop-again c =
+    let s = c .before .before .before .before .before .before .before .before .before .before .before .before .before .before in
+    let g = s .args in
+    let l = c .before .before .before .before .before .before .before .before .before .before .before .loop in
+    let n = c .before .before .before .before .link in
+    let ln = subst (λ (u : ℕ). Linked (g .n) (getD (g .rep .now) u 0) u (l .low) (l .after) (n .last .1 .1 .1 .0) (n .last .1 .1 .1 .1 .0)) (c .before .before .before .before .before .before .before .before .wide .ensures) (n .ensures) in (
+      down-more (g .n) (g .count) (g .rep .now) (g .slots .now) (s .pre .3) (l .low) (l .after) (n .last .1 .1 .1 .0) (n .last .1 .1 .1 .1 .0) (l .k) (l .k - 1) (omega (arith, c .before .before .before .before .before .before .before .before .before .before .loop-test .taken)) (l .inv .1) (l .inv .0) ln,
+      omega (arith, l .inv .1),
+      linked-first (n .ensures) ∙ l .inv .2,
+      linked-next (n .ensures) ∙ l .inv .3,
+    )
 
 same-length : tie.Need-same-length Inv-loop μ-loop
 same-length c = c .before .loop .inv .2
@@ -32,7 +53,7 @@ same-length-2 : tie.Need-same-length-2 Inv-loop μ-loop
 same-length-2 c = c .before .loop .inv .3
 
 returns : tie.Need-returns Inv-loop μ-loop
-returns c = partly-all (placeOf (c .before .before .before .before .args .rep .now)) (c .before .before .before .before .args .n) (c .before .before .before .before .args .n) (c .before .loop .low) (c .before .loop .after) (c .before .loop .x) (omega (arith, c .loop-test .left)) (c .before .loop .inv .0)
+returns c = let s = c .before .before .before .before in let g = s .args in let l = c .before .loop in down-all (g .n) (g .count) (g .rep .now) (g .slots .now) (s .pre .3) (l .low) (l .after) (l .k) (omega (arith, c .loop-test .left)) (l .inv .0)
 
 pub chain-members-spec : {M : Type 1} → statement M
 chain-members-spec =
@@ -43,7 +64,10 @@ chain-members-spec =
     loop-holds
     (λ c. omega arith)
     (λ c. omega arith)
-    (λ c. omega arith)
+    element-copy-out-wide
+    (λ c κs. tt)
+    mul-link
+    element-copy-out-link
     link-requires
     (λ c. omega arith)
     loop-again

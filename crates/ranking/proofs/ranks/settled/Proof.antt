@@ -1,12 +1,11 @@
 -- `settled` meets its contract: the tests are those of its meaning. Assumes nothing.
-use Rattle.circles.specs.Labels.{Says}
-use Rattle.ranking.specs.Turns.{Settled}
-use lib.ListN.{length, getD}
+use Rattle.ranking.specs.Turns.{Says, Settled}
+use lib.ListN.{getD}
 use mathlib.Core.Logic.{inl, inr, ⊎-elim}
-use mathlib.Core.Bool.{Bool, true, false, true≢false, false≢true}
-use mathlib.Core.Path.{_≡_, refl, sym, ap, subst, _∙_}
+use mathlib.Core.Bool.{true, false, true≢false, false≢true}
+use mathlib.Core.Path.{sym, ap, subst, _∙_}
 use native.Mathlib.Omega.{arith}
-use Prim.Native.Nat.{ℕ, _≤_, _<_}
+use Prim.Native.Nat.{ℕ, _≤_}
 use borrow.Author.Needs.{needs}
 use Rattle.ranking.proofs.ranks.settled.Statement.{statement}
 use Rattle.ranking.proofs.ranks.settled.Tie as tie
