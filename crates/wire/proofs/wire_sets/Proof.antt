@@ -164,7 +164,7 @@ wire-sets-spec =
     (λ c. omega (arith, below (c .before .before), room (c .before .before) .firsts))
     (λ c. omega (arith, small (c .before .before)))
     (λ c. omega (arith, below (c .before .before), room (c .before .before) .seconds))
-    (λ c. let s = o (c .before .before) in omega (arith, s .pre .1 .0, s .pre .0 .few))
+    (λ c. let s = o (c .before .before) in omega (arith, s .pre .1 .0, s .pre .0 .few, small (c .before .before)))
     (λ c. omega (arith, small (c .before .before)))
     (λ c. omega (arith, below (c .before .before), room (c .before .before) .lefts))
     (λ c. omega (arith, rule-small (c .before .before)))
