@@ -7,6 +7,7 @@ ghost use mathlib.Core.Path.{_≡_};
 ghost use mathlib.Core.Bool.{cond};
 ghost use Prim.Native.Nat.{_+_, _*_, _<_, _≤_};
 ghost use lib.ListN.{length, getD};
+ghost use Rattle.table.specs.Words.{childCount};
 ghost use Rattle.table.specs.Equations.{opNumber, aField, bField, usesA, usesB};
 ghost use Rattle.wire.specs.Arrays.{Wired};
 ghost use Rattle.wire.specs.Turns.{Held, Ends, Room, Own, Row, Named, Beyond, Fit, Sets, Partly, Blank, Stay};
@@ -95,6 +96,7 @@ fn wire_node<'a>(
     beyond: &'a [u64; 9],
     named: &'a [u16; 1032],
     q: usize,
+    children: usize,
     a: &mut [u16],
     b: &mut [u16],
     left: &mut [u16],
@@ -102,6 +104,7 @@ fn wire_node<'a>(
 )
     requires { ⌜ Held (now table) (now productions) ⌝ }
     requires { ⌜ q < length (now productions) ⌝ }
+    requires { ⌜ children ≡ childCount (now table) (getD (now productions) q 0) ⌝ }
     requires { ⌜ Beyond (now beyond) ⌝ }
     requires { ⌜ Named (now table) (now productions) q (now named) ⌝ }
     requires { ⌜ Room (8 * length (now productions)) (now a) (now b) (now left) (now rule) ⌝ }
@@ -110,7 +113,7 @@ fn wire_node<'a>(
     ensures { λ _. ⌜ Stay (8 * length (now (productions .entry))) (now (a .entry)) (now (b .entry)) (now (left .entry)) (now (rule .entry)) (now (a .exit)) (now (b .exit)) (now (left .exit)) (now (rule .exit)) ⌝ }
 {
     let p = wide(productions[q]);
-    let last = 20 * p + 4 * child_count(table, p);
+    let last = 20 * p + 4 * children;
     let mut number = 20 * p;
     let mut heads = 40 * p + 97;
     let count = synthesized_of(table, left_of(table, p)) % 256;
@@ -171,31 +174,33 @@ fn name_child(named: &mut [u16; 1032], q: usize, at: usize, node: usize)
     }
 }
 
-// Names the instances of node `q`'s children.
+// Names the instances of node `q`'s children, and counts these.
 fn name_children<'a>(
     table: &'a [u64; 2657],
     productions: &'a [u8],
     ends: &'a [u16],
     q: usize,
     named: &mut [u16; 1032],
-)
+) -> usize
     requires { ⌜ Held (now table) (now productions) ⌝ }
     requires { ⌜ Ends (now table) (now productions) (now ends) ⌝ }
     requires { ⌜ q < length (now productions) ⌝ }
     requires { ⌜ Own q (now named) ⌝ }
     ensures { λ _. ⌜ Named (now (table .entry)) (now (productions .entry)) q (now (named .exit)) ⌝ }
+    ensures { λ r. ⌜ r ≡ childCount (now (table .entry)) (getD (now (productions .entry)) q 0) ⌝ }
 {
     let count = child_count(table, wide(productions[q]));
     let mut next = q + 1;
     let mut k = 0;
     while k < 4 {
         if count <= k {
-            return;
+            return count;
         }
         name_child(named, q, k + 1, next);
         next = wide16(ends[next]);
         k += 1;
     }
+    count
 }
 
 // Names the instances of the root.
@@ -263,8 +268,19 @@ pub fn wire_tree<'a>(
     blank(8 * n, a, b, left, rule);
     let mut q = 0;
     while q < n {
-        name_children(table, productions, ends, q, &mut named);
-        wire_node(table, productions, &beyond, &named, q, a, b, left, rule);
+        let children = name_children(table, productions, ends, q, &mut named);
+        wire_node(
+            table,
+            productions,
+            &beyond,
+            &named,
+            q,
+            children,
+            a,
+            b,
+            left,
+            rule,
+        );
         name_next(&mut named, q);
         q += 1;
     }

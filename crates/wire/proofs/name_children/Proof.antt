@@ -87,7 +87,7 @@ name-children-spec =
     (λ c κs. omega (arith, c .wide .ensures .0, number (st c)))
     (λ c. omega (arith, st (c .before) .pre .1 .1 .0, st (c .before) .pre .0 .few))
     holds
-    (λ c. all (c .before .before) (c .if1 .taken))
+    (λ c. (all (c .before .before) (c .if1 .taken), c .before .before .loop .inv .counted))
     (λ c. omega (arith, c .before .before .loop-test .taken))
     asked
     (λ c. omega (arith, small (c .before .before)))
@@ -96,4 +96,4 @@ name-children-spec =
     (λ c. omega (arith, c .before .before .before .before .before .loop-test .taken))
     (λ c. omega (arith, c .before .before .before .before .before .loop-test .taken))
     again
-    (λ c. all (c .before) (omega (arith, few (c .before), c .loop-test .left))))
+    (λ c. (all (c .before) (omega (arith, few (c .before), c .loop-test .left)), c .before .loop .inv .counted)))

@@ -16,12 +16,12 @@ use Rattle.wire.proofs.wire_node.Statement.{statement}
 use Rattle.wire.proofs.wire_node.Tie as tie
 
 abbrev Inv-loop : tie.InvT-loop
-Inv-loop table productions beyond named q a₀ b₀ left₀ rule₀ p last number₀ heads₀ count at₀ a b left rule number heads at =
+Inv-loop table productions beyond named q children a₀ b₀ left₀ rule₀ p last number₀ heads₀ count at₀ a b left rule number heads at =
     ((1 ≤ at) × (number + 4 ≡ 20 * p + 4 * at) × (heads ≡ 97 + 2 * number) × (number ≤ last))
     × Partly table productions (20 * q + 4 * at) a b left rule × Stay (8 * length productions) a₀ b₀ left₀ rule₀ a b left rule
 
 abbrev μ-loop : tie.MeasureT-loop
-μ-loop table productions beyond named q a₀ b₀ left₀ rule₀ p last number₀ heads₀ count at₀ a b left rule number heads at = last - number
+μ-loop table productions beyond named q children a₀ b₀ left₀ rule₀ p last number₀ heads₀ count at₀ a b left rule number heads at = last - number
 
 abbrev st : tie.After-wide Inv-loop μ-loop → tie.Start Inv-loop μ-loop
 st w = w .before .before .before .before .before .before .before
@@ -33,7 +33,7 @@ summed c = c .before .before .before .before
 abbrev zeroth : tie.After-slice-known8 Inv-loop μ-loop → tie.After-wire-sets Inv-loop μ-loop
 zeroth c = c .before .before .before .before .before .before .before .before
 
-abbrev nth : tie.At-loop Inv-loop μ-loop → tie.After-child-count Inv-loop μ-loop
+abbrev nth : tie.At-loop Inv-loop μ-loop → tie.After-wide Inv-loop μ-loop
 nth l = summed (zeroth (l .before) .before) .before .before
 
 abbrev inside : tie.After-wide16 Inv-loop μ-loop → tie.In-loop Inv-loop μ-loop
@@ -56,31 +56,31 @@ module _ (s : tie.Start Inv-loop μ-loop) where
   number-at m h = omega (arith, number-in t ns (s .pre .0 .judged) (s .pre .0 .sound) m h, limits t (s .pre .0 .judged) .productions)
 
 -- the node's production and its children
-module _ (n : tie.After-child-count Inv-loop μ-loop) where
+module _ (n : tie.After-wide Inv-loop μ-loop) where
   abbrev s : tie.Start Inv-loop μ-loop
-  s = st (n .before)
+  s = st n
 
-  production : n .before .wide .result ≡ getD (ns s) (s .args .q) 0
-  production = n .before .wide .ensures .0
+  production : n .wide .result ≡ getD (ns s) (s .args .q) 0
+  production = n .wide .ensures .0
 
-  counted : n .child-count .result ≡ childCount (t s) (getD (ns s) (s .args .q) 0)
-  counted = n .child-count .ensures ∙ ap (childCount (t s)) production
+  counted : s .args .children ≡ childCount (t s) (getD (ns s) (s .args .q) 0)
+  counted = s .pre .1 .1 .0
 
-  few : (n .before .wide .result < 64) × (n .child-count .result ≤ 4)
+  few : (n .wide .result < 64) × (s .args .children ≤ 4)
   few = (omega (arith, production, number-at s (s .args .q) (s .pre .1 .0)), omega (arith, counted, few-children (t s) (ns s) (s .pre .0) (s .args .q) (s .pre .1 .0)))
 
 -- ---- position 0
 
 synthesized-small : (g : tie.After-left-of Inv-loop μ-loop) → g .left-of .result < 32
 synthesized-small g =
-    let s = st (g .before .before) in
+    let s = st (g .before) in
     rw (g .left-of .ensures, production (g .before)) (symbol-small (t s) (ns s) (s .pre .0) (s .args .q) (s .pre .1 .0) 0 zero-le)
 
 every-first : (c : tie.After-synthesized-of Inv-loop μ-loop) →
-    let s = st (c .before .before .before) in c .synthesized-of .result % 256 ≡ defined (t s) (getD (ns s) (s .args .q) 0) 0
+    let s = st (c .before .before) in c .synthesized-of .result % 256 ≡ defined (t s) (getD (ns s) (s .args .q) 0) 0
 every-first c =
     let n = c .before .before in
-    let s = st (n .before) in
+    let s = st n in
     let e : c .synthesized-of .result ≡ synthesized (t s) (leftOf (t s) (getD (ns s) (s .args .q) 0)) = c .synthesized-of .ensures ∙ ap (synthesized (t s)) (c .before .left-of .ensures ∙ ap (leftOf (t s)) (production n)) in
     let f : defined (t s) (getD (ns s) (s .args .q) 0) 0 ≤ 4 = shaped (t s) (ns s) (s .pre .0) (s .args .q) (s .pre .1 .0) .few 0 zero-le in
     let g : c .synthesized-of .result ≤ 4 = rw e f in
@@ -91,7 +91,7 @@ first : tie.Need-wire-sets-requires Inv-loop μ-loop
 first c κs =
     let g = summed c in
     let n = g .before .before in
-    let s = st (n .before) in
+    let s = st n in
     let z : 20 * s .args .q + 4 * 0 ≡ 20 * s .args .q = omega arith in
     let f : 8 * s .args .q ≡ 8 * s .args .q + 0 = omega arith in (
       s .pre .0,
@@ -105,7 +105,7 @@ first c κs =
             slots = f;
             every = every-first g;
           },
-          (s .pre .1 .1 .0, (s .pre .1 .1 .1 .0, (s .pre .1 .1 .1 .1 .0, rw z (s .pre .1 .1 .1 .1 .1)))),
+          (s .pre .1 .1 .1 .0, (s .pre .1 .1 .1 .1 .0, (s .pre .1 .1 .1 .1 .1 .0, rw z (s .pre .1 .1 .1 .1 .1 .1)))),
         ),
       ),
     )
@@ -120,7 +120,7 @@ module _ (c : tie.In-loop Inv-loop μ-loop) where
   abbrev l : tie.At-loop Inv-loop μ-loop
   l = c .before
 
-  abbrev n : tie.After-child-count Inv-loop μ-loop
+  abbrev n : tie.After-wide Inv-loop μ-loop
   n = nth l
 
   abbrev o : tie.Start Inv-loop μ-loop
@@ -143,7 +143,7 @@ module _ (x : tie.After-wide16 Inv-loop μ-loop) where
   slot : x .wide16 .result ≡ 8 * spot (t (o c)) (ns (o c)) (o c .args .q) (at c)
   slot =
       let z : 256 * at c + 0 ≡ 256 * at c = omega arith in
-      let w = o c .pre .1 .1 .1 .0 .names (at c) 0 (within c) (omega arith) in
+      let w = o c .pre .1 .1 .1 .1 .0 .names (at c) 0 (within c) (omega arith) in
       x .wide16 .ensures ∙ omega (arith, rw z at w)
 
   node : x .wide16 .result / 8 ≡ spot (t (o c)) (ns (o c)) (o c .args .q) (at c)
@@ -177,7 +177,7 @@ other k κs =
             slots = omega (arith, slot x, first-is (at i) (v .0 .0));
             every = h .inherited-of .ensures ∙ ap (inherited (t s)) (symbol-is (h .before)) ∙ child-sets (t s) (ns s) (s .pre .0) (s .args .q) (s .pre .1 .0) (at i) (v .0 .0) (within i);
           },
-          (s .pre .1 .1 .0, (s .pre .1 .1 .1 .0, (stay-room (stay-trans (zeroth (l i .before) .wire-sets .ensures .1) (v .2)) (s .pre .1 .1 .1 .1 .0), v .1))),
+          (s .pre .1 .1 .1 .0, (s .pre .1 .1 .1 .1 .0, (stay-room (stay-trans (zeroth (l i .before) .wire-sets .ensures .1) (v .2)) (s .pre .1 .1 .1 .1 .1 .0), v .1))),
         ),
       ),
     )
@@ -211,8 +211,7 @@ wire-node-spec =
     μ-loop
     (λ c. c .before .before .before .before .before .before .pre .1 .0)
     (λ c κs. search needs)
-    (λ c. omega (arith, c .wide .ensures .1))
-    (λ c κs. omega (arith, c .wide .ensures .0, number-at (st c) (st c .args .q) (st c .pre .1 .0)))
+    (λ c. omega (arith, few c))
     (λ c. omega (arith, few c))
     (λ c. omega (arith, few c))
     (λ c. omega (arith, few c))
@@ -220,7 +219,7 @@ wire-node-spec =
     (λ c. omega (arith, few c))
     (λ c κs. omega (arith, few c))
     (λ c κs. synthesized-small c)
-    (λ c. let s = st (c .before .before .before) in omega (arith, s .pre .1 .0, s .pre .0 .few))
+    (λ c. let s = st (c .before .before) in omega (arith, s .pre .1 .0, s .pre .0 .few))
     first
     (λ k. ((omega arith, omega arith, omega arith, omega arith), zeroth k .wire-sets .ensures .0, stay-refl _ _ _ _ _))
     (λ c. omega (arith, c .loop-test .taken, few (n c)))

@@ -50,7 +50,7 @@ node c κs =
     let i = d .before .before in
     let s = top i in
     let k = i .before .loop in
-    (s .pre .0, (i .loop-test .taken, (beyond-is, (d .name-children .ensures, (stay-room (stay-trans (marked (i .before .before) .blank .ensures .1) (k .inv .3)) (s .pre .1 .1), k .inv .2)))))
+    (s .pre .0, (i .loop-test .taken, (d .name-children .ensures .1, (beyond-is, (d .name-children .ensures .0, (stay-room (stay-trans (marked (i .before .before) .blank .ensures .1) (k .inv .3)) (s .pre .1 .1), k .inv .2))))))
 
 -- the node that the next follows
 abbrev done : tie.After-named4 Inv-loop μ-loop → tie.After-wire-node Inv-loop μ-loop
@@ -60,7 +60,7 @@ next : tie.Need-name-next-requires Inv-loop μ-loop
 next c κs =
     let d = children (done c .before) in
     let i = d .before .before in
-    (omega (arith, i .loop-test .taken, top i .pre .0 .few), d .name-children .ensures .own)
+    (omega (arith, i .loop-test .taken, top i .pre .0 .few), d .name-children .ensures .0 .own)
 
 again : tie.Need-loop-again Inv-loop μ-loop
 again c =
