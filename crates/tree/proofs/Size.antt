@@ -66,11 +66,14 @@ module _ (t ns ends : List ℕ) (at k next : ℕ) (e : next ≡ childAt t ns at 
   pub turn-in : Ended t ns (at + 1) ends → next < length ns → getD ends next 0 ≡ childAt t ns at (k + 1)
   turn-in f h = rw (add-one, child-next) (f next (omega (arith, child-after t ns at k)) h ∙ ap (spanEnd t ns) e)
 
-  pub turn-out : length ns ≤ next → next ≡ childAt t ns at (k + 1)
-  turn-out h = rw (add-one, child-next) (sym (end-out t ns next h) ∙ ap (spanEnd t ns) e)
-
   pub in-fits : Ended t ns (at + 1) ends → at < length ns → next < length ns → getD ends next 0 ≤ length ns
   in-fits f g h = rw (turn-in f h) (child-le t ns at (k + 1) g)
+
+-- behind the last node every further child is where the walk stands
+pub turns-out : (t ns : List ℕ) (at k next : ℕ) → next ≡ childAt t ns at k → length ns ≤ next → (j : ℕ) → next ≡ childAt t ns at (j + k)
+turns-out t ns at k next e h zero = e ∙ ap (childAt t ns at) (sym (zero-add k))
+turns-out t ns at k next e h (suc j) =
+    sym (end-out t ns next h) ∙ ap (spanEnd t ns) (turns-out t ns at k next e h j) ∙ sym (child-next t ns at (j + k)) ∙ ap (childAt t ns at) (sym (suc-add j k))
 
 -- behind the last child is the end
 pub turn-last : (t ns : List ℕ) (at p k next count : ℕ) → at < length ns → p ≡ getD ns at 0 → count ≡ childCount t p → k ≡ count → next ≡ childAt t ns at k → next ≡ spanEnd t ns at

@@ -127,9 +127,10 @@ fn end_of(table: &[u64; 2657], productions: &[u8], ends: &[u16], at: usize) -> u
     let mut next = at + 1;
     let mut child = 0;
     while child < count {
-        if next < productions.len() {
-            next = ends[next] as usize;
+        if productions.len() <= next {
+            return next;
         }
+        next = ends[next] as usize;
         child += 1;
     }
     next

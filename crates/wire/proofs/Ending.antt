@@ -1,68 +1,21 @@
--- The places of a node's children, written one after the other; and the arrays once every node has had its turns. Assumes nothing.
-use Prim.Native.Nat.{ℕ, suc, _+_, _-_, _*_, _≤_, _<_}
+-- The ends that are asked for, and the arrays once every node has had its turns. Assumes nothing.
+use Prim.Native.Nat.{ℕ, _+_, _-_, _*_, _≤_, _<_}
 use mathlib.Core.Path.{_≡_, sym, ap, _∙_}
 use mathlib.Core.List.{List}
-use lib.ListN.{length, getD, set, drop, length-set, length-append, length-drop, List·getD-append}
-use lib.Seq.{getD-set-same, getD-set-other, getD-append-add, getD-drop, ext-getD}
-use native.Mathlib.Decide.{decLt, ℕ-discrete}
-use native.Mathlib.Numerals.{add-one}
+use lib.ListN.{length, getD, drop, length-append, length-drop, List·getD-append}
+use lib.Seq.{getD-append-add, getD-drop, ext-getD}
+use native.Mathlib.Decide.{decLt}
 use native.Mathlib.Omega.{arith}
-use Rattle.table.specs.Words.{childCount}
-use Rattle.tree.specs.Tree.{childAt}
 use Rattle.tree.specs.Spans.{Spans}
-use Rattle.tree.proofs.Size.{child-first, turn-in}
 use Rattle.circles.specs.Arrays.{over}
-use Rattle.wire.specs.Instances.{spot}
 use Rattle.wire.specs.Arrays.{firstAt, secondAt, leftAt, ruleIn, bySlot, Wired}
-use Rattle.wire.specs.Turns.{Held, Ends, Room, Kids, Partly, Behind, Stay}
+use Rattle.wire.specs.Turns.{Held, Ends, Room, Partly, Behind, Stay}
 use Rattle.wire.proofs.Holding.{slots-length, slot-at}
-use Rattle.wire.proofs.Turning.{few-children, spot-below, partly-all}
+use Rattle.wire.proofs.Turning.{partly-all}
 
 -- the ends as `spans` of the trees leaves them
 pub spans-ends : {t ns before ends : List ℕ} → length ns ≤ length before → Spans t ns before ends → Ends t ns ends
 spans-ends h s = record { long = omega (arith, h, s .long); ended = s .nodes }
-
--- ---- the places of a node and its first k children
-
-pub record Kidding (t ns : List ℕ) (q : ℕ) (kids : List ℕ) (count next k : ℕ) : Type 0 where
-  pub counted : count ≡ childCount t (getD ns q 0)
-  pub within : k ≤ count
-  pub place : next ≡ childAt t ns q k
-  pub upto : (at : ℕ) → at ≤ k → getD kids at 0 ≡ spot t ns q at
-  pub long : length kids ≡ 5
-
-pub kidding-none : (t ns : List ℕ) (q : ℕ) (kids : List ℕ) (count : ℕ) → length kids ≡ 5 → count ≡ childCount t (getD ns q 0) → Kidding t ns q (set kids 0 q) count (q + 1) 0
-kidding-none t ns q kids count l c = record {
-  counted = c;
-  within = omega arith;
-  place = add-one q ∙ sym (child-first t ns q);
-  upto = λ at h. let z : at ≡ 0 = omega arith in rw z (getD-set-same kids 0 q 0 (omega arith));
-  long = length-set kids 0 q ∙ l;
-}
-
-module _ (t ns ends : List ℕ) (held : Held t ns) (en : Ends t ns ends) (q : ℕ) (h : q < length ns) (kids : List ℕ) (count next k : ℕ) (kd : Kidding t ns q kids count next k) where
-  pub kidding-few : count ≤ 4
-  kidding-few = rw (kd .counted) (few-children t ns held q h)
-
-  pub kidding-in : k < count → next < length ns
-  kidding-in b = rw (kd .place) (spot-below t ns held q h (suc k) (omega (arith, kd .counted)))
-
-  pub kidding-more : k < count → Kidding t ns q (set kids (k + 1) next) count (getD ends next 0) (k + 1)
-  kidding-more b = record {
-    counted = kd .counted;
-    within = omega arith;
-    place = turn-in t ns ends q k next (kd .place) (λ n i j. en .ended n (omega arith) j) (kidding-in b);
-    upto = λ at i. elim (ℕ-discrete at (k + 1)) [
-      | yes z ↦
-          let y : k + 1 ≡ suc k = add-one k in
-          rw z (getD-set-same kids (k + 1) next 0 (omega (arith, kidding-few, kd .long)) ∙ kd .place ∙ sym (ap (spot t ns q) y))
-      | no z ↦ getD-set-other kids (k + 1) at next 0 z ∙ kd .upto at (omega arith)
-    ];
-    long = length-set kids (k + 1) next ∙ kd .long;
-  }
-
-  pub kidding-all : count ≤ k → Kids t ns q kids
-  kidding-all e = record { place = λ at b. kd .upto at (omega (arith, kd .counted)) }
 
 -- ---- the arrays at the end
 

@@ -6,4 +6,5 @@ pub mod Holding
 pub mod Rooms
 pub mod Reading
 pub mod Turning
+pub mod Naming
 pub mod Ending

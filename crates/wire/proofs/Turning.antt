@@ -9,7 +9,7 @@ use lib.Seq.{getD-set-same, getD-set-other}
 use native.Mathlib.Decide.{decLt, ℕ-discrete}
 use native.Mathlib.Omega.{arith}
 use Rattle.sets.specs.Arguments.{argumentsOf}
-use Rattle.table.specs.Words.{productionCount, synthesized, inherited, leftOf, childCount, childOf, defined, ruleOf}
+use Rattle.table.specs.Words.{productionCount, inherited, leftOf, childCount, childOf, defined, ruleOf}
 use Rattle.table.specs.Shape.{Shaped}
 use Rattle.table.specs.Same.{Has}
 use Rattle.table.proofs.Limits.{limits}
@@ -18,7 +18,7 @@ use Rattle.tree.proofs.Symbols.{child-below, child-symbol}
 use Rattle.climb.proofs.Lists.{either}
 use Rattle.wire.specs.Instances.{declared, placeOf, ruleAt, spot, named, argsAt}
 use Rattle.wire.specs.Arrays.{firstAt, secondAt, leftAt, ruleIn}
-use Rattle.wire.specs.Turns.{Held, Room, firstIndex, setsOf, Wires, turn, Partly}
+use Rattle.wire.specs.Turns.{Held, Room, firstIndex, Wires, turn, Partly}
 use Rattle.wire.proofs.Places.{Defined, here, parent, opIn, has-synthesized, has-inherited, declared-below, is-declared, place-defined, defined-has, defined-node, defined-rule, defined-args, number-in}
 
 -- a place of the table defines one instance of a node
@@ -142,15 +142,15 @@ module _ (t ns : List ℕ) (held : Held t ns) where
     spot-below zero b = h
     spot-below (suc k) b = child-below t ns 0 (held .sound) (kid-of k b)
 
-    -- the symbol of the node at a position tells how many sets are defined there
+    -- the symbol of the node at a child's position tells how many sets are defined there
     pub symbol-small : (at : ℕ) → at ≤ childCount t p → leftOf t (getD ns (spot t ns q at) 0) < 32
     symbol-small at b =
         let n = number-in t ns (held .judged) (held .sound) (spot t ns q at) (spot-below at b) in
         omega (arith, limits t (held .judged) .small (getD ns (spot t ns q at) 0) 0 n zero-le, limits t (held .judged) .symbols)
 
-    pub sets-are : (at : ℕ) → at ≤ childCount t p → setsOf t (leftOf t (getD ns (spot t ns q at) 0)) at ≡ defined t p at
-    sets-are zero b = refl
-    sets-are (suc k) b = ap (inherited t) (child-symbol t ns 0 (held .sound) (kid-of k b))
+    pub child-sets : (at : ℕ) → 1 ≤ at → at ≤ childCount t p → inherited t (leftOf t (getD ns (spot t ns q at) 0)) ≡ defined t p at
+    child-sets zero a b = absurd (omega arith)
+    child-sets (suc k) a b = ap (inherited t) (child-symbol t ns 0 (held .sound) (kid-of k b))
 
     abbrev slot : ℕ → ℕ → ℕ
     slot at i = 8 * spot t ns q at + (firstIndex at + i)

@@ -1,10 +1,11 @@
 -- What is asked of the memory that the wiring works on, and what holds while it is made, node by node and position by position. Assumes nothing.
-use Prim.Native.Nat.{ℕ, zero, suc, _+_, _*_, _/_, _%_, _≤_, _<_}
+use Prim.Native.Nat.{ℕ, zero, suc, _+_, _*_, _%_, _≤_, _<_}
 use mathlib.Core.Path.{_≡_}
-use mathlib.Core.Bool.{Bool, true, false}
+use mathlib.Core.Bool.{Bool, true, false, cond}
 use mathlib.Core.List.{List, [], _∷_}
 use lib.ListN.{length, getD}
-use Rattle.table.specs.Words.{synthesized, inherited, childCount}
+use Rattle.table.specs.Words.{childCount, defined}
+use Rattle.table.specs.Equations.{usesA, usesB}
 use Rattle.table.specs.Judge.{judgeTable}
 use Rattle.tree.specs.Tree.{judgeNodes}
 use Rattle.tree.specs.Spans.{Ended}
@@ -33,28 +34,44 @@ pub record Room (n : ℕ) (a b left rule : List ℕ) : Type 0 where
 
 -- ---- one node
 
--- the places of node q and its children, by position
-pub record Kids (t ns : List ℕ) (q : ℕ) (kids : List ℕ) : Type 0 where
-  pub place : (at : ℕ) → at ≤ childCount t (getD ns q 0) → getD kids at 0 ≡ spot t ns q at
+-- the names of node q's instances come first, and behind them, at 8, is the mark of what is not read
+pub record Own (q : ℕ) (named : List ℕ) : Type 0 where
+  pub long : length named ≡ 1032
+  pub none : getD named 8 0 ≡ 65535
+  pub names : (i : ℕ) → i < 8 → getD named i 0 ≡ 8 * q + i
 
--- the instance that an argument, 256 · position + index, names there
-unfoldable pub namedIn : List ℕ → ℕ → ℕ
-namedIn kids o = 8 * getD kids (o / 256) 0 + o % 256
+-- the first n names of a node stand at a position, and what is before the position is as it was
+pub record Row (at node n : ℕ) (before after : List ℕ) : Type 0 where
+  pub long : length after ≡ length before
+  pub names : (i : ℕ) → i < n → getD after (256 * at + i) 0 ≡ 8 * node + i
+  pub others : (x : ℕ) → x < 256 * at → getD after x 0 ≡ getD before x 0
 
--- an argument that is read has a position and names an instance
-pub record Fit (kids : List ℕ) (used : Bool) (o : ℕ) : Type 0 where
-  pub place : used ≡ true → o / 256 ≤ 4
-  pub small : used ≡ true → namedIn kids o < 4096
+-- the instances of node q and its children, each where an argument, 256 · position + index, names it
+pub record Named (t ns : List ℕ) (q : ℕ) (named : List ℕ) : Type 0 where
+  pub own : Own q named
+  pub names : (at i : ℕ) → at ≤ childCount t (getD ns q 0) → i < 8 → getD named (256 * at + i) 0 ≡ 8 * spot t ns q at + i
+
+-- an argument that is read has a name, and one that is not is 0
+pub record Fit (used : Bool) (o : ℕ) : Type 0 where
+  pub within : used ≡ true → o < 1032
+  pub unused : used ≡ false → o ≡ 0
+
+-- what is added to the head of an operation, so that the arguments that it doesn't read lead to the mark
+pub record Beyond (l : List ℕ) : Type 0 where
+  pub added : (op : ℕ) → op ≤ 8 → getD l op 0 ≡ cond (usesA op) 0 524288 + cond (usesB op) 0 8
 
 -- the index of the first set that a position defines: the left symbol's synthesized ones, a child's inherited ones
 abbrev pub firstIndex : ℕ → ℕ
 firstIndex zero = 0
 firstIndex (suc k) = 4
 
--- how many they are, where the position's symbol is s
-abbrev pub setsOf : List ℕ → ℕ → ℕ → ℕ
-setsOf t s zero = synthesized t s
-setsOf t s (suc k) = inherited t s
+-- the sets that node q's production defines at a position: their first rule and its head's place, their first slot, and how many they are
+pub record Sets (t ns : List ℕ) (q at number heads from count : ℕ) : Type 0 where
+  pub within : at ≤ childCount t (getD ns q 0)
+  pub rules : number ≡ 20 * getD ns q 0 + 4 * at
+  pub words : heads ≡ 97 + 2 * number
+  pub slots : from ≡ 8 * spot t ns q at + firstIndex at
+  pub every : count ≡ defined t (getD ns q 0) at
 
 -- ---- in the midst
 

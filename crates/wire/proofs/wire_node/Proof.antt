@@ -1,93 +1,207 @@
 -- Position by position: what the node defines at the earlier ones is wired. Assumes nothing.
-use Prim.Native.Nat.{_+_, _-_, _*_, _≤_, _<_, zero-le}
-use mathlib.Core.Path.{_≡_, refl, ap, _∙_}
+use Prim.Native.Nat.{ℕ, zero, suc, _+_, _-_, _*_, _/_, _%_, _≤_, _<_, zero-le}
+use mathlib.Core.Path.{_≡_, ap, _∙_}
+use mathlib.Core.List.{List}
 use native.Mathlib.Omega.{arith}
 use lib.ListN.{length, getD}
 use borrow.Author.Needs.{needs}
-use Rattle.table.specs.Words.{childCount}
+use Rattle.table.specs.Words.{childCount, synthesized, inherited, leftOf, defined}
 use Rattle.table.proofs.Limits.{limits}
-use Rattle.wire.specs.Turns.{Partly, Stay}
+use Rattle.wire.specs.Instances.{spot}
+use Rattle.wire.specs.Turns.{Sets, Partly, Stay, firstIndex}
 use Rattle.wire.proofs.Places.{number-in}
 use Rattle.wire.proofs.Rooms.{stay-refl, stay-trans, stay-room}
-use Rattle.wire.proofs.Turning.{few-children, skip-rest}
+use Rattle.wire.proofs.Turning.{few-children, shaped, spot-below, symbol-small, child-sets, skip-rest}
 use Rattle.wire.proofs.wire_node.Statement.{statement}
 use Rattle.wire.proofs.wire_node.Tie as tie
 
 abbrev Inv-loop : tie.InvT-loop
-Inv-loop table productions ends q a₀ b₀ left₀ rule₀ kids count at₀ a b left rule at =
-    (at ≤ count + 1) × Partly table productions (20 * q + 4 * at) a b left rule × Stay (8 * length productions) a₀ b₀ left₀ rule₀ a b left rule
+Inv-loop table productions beyond named q children a₀ b₀ left₀ rule₀ p last number₀ heads₀ count at₀ a b left rule number heads at =
+    ((1 ≤ at) × (number + 4 ≡ 20 * p + 4 * at) × (heads ≡ 97 + 2 * number) × (number ≤ last))
+    × Partly table productions (20 * q + 4 * at) a b left rule × Stay (8 * length productions) a₀ b₀ left₀ rule₀ a b left rule
 
 abbrev μ-loop : tie.MeasureT-loop
-μ-loop table productions ends q a₀ b₀ left₀ rule₀ kids count at₀ a b left rule at = count + 1 - at
+μ-loop table productions beyond named q children a₀ b₀ left₀ rule₀ p last number₀ heads₀ count at₀ a b left rule number heads at = last - number
 
-abbrev st : tie.After-kids-of Inv-loop μ-loop → tie.Start Inv-loop μ-loop
-st k = k .before .before .before .before .before .before .before .before
-
-abbrev ko : tie.After-child-count Inv-loop μ-loop → tie.After-kids-of Inv-loop μ-loop
-ko n = n .before .before .before
+abbrev st : tie.After-wide Inv-loop μ-loop → tie.Start Inv-loop μ-loop
+st w = w .before .before .before .before .before .before .before
 
 -- position 0 is wired before the loop, each other in it
-abbrev cc : tie.After-wire-position-arg4 Inv-loop μ-loop → tie.After-child-count Inv-loop μ-loop
-cc p = p .before .before .before .before .before
+abbrev summed : tie.After-wire-sets-arg4 Inv-loop μ-loop → tie.After-synthesized-of Inv-loop μ-loop
+summed c = c .before .before .before .before
 
-abbrev zeroth : tie.After-slice-known8 Inv-loop μ-loop → tie.After-wire-position Inv-loop μ-loop
+abbrev zeroth : tie.After-slice-known8 Inv-loop μ-loop → tie.After-wire-sets Inv-loop μ-loop
 zeroth c = c .before .before .before .before .before .before .before .before
 
-abbrev inside : tie.After-wire-position-arg8 Inv-loop μ-loop → tie.In-loop Inv-loop μ-loop
-inside p = p .before .before .before .before .before
+abbrev nth : tie.At-loop Inv-loop μ-loop → tie.After-wide Inv-loop μ-loop
+nth l = summed (zeroth (l .before) .before) .before .before
 
-abbrev wired : tie.After-slice-known12 Inv-loop μ-loop → tie.After-wire-position2 Inv-loop μ-loop
+abbrev inside : tie.After-wide16 Inv-loop μ-loop → tie.In-loop Inv-loop μ-loop
+inside x = x .before .before
+
+abbrev looked : tie.After-wire-sets-arg8 Inv-loop μ-loop → tie.After-inherited-of Inv-loop μ-loop
+looked c = c .before .before .before .before
+
+abbrev wired : tie.After-slice-known12 Inv-loop μ-loop → tie.After-wire-sets2 Inv-loop μ-loop
 wired c = c .before .before .before .before .before .before .before .before
 
-abbrev nth : tie.At-loop Inv-loop μ-loop → tie.After-child-count Inv-loop μ-loop
-nth l = cc (zeroth (l .before) .before)
+module _ (s : tie.Start Inv-loop μ-loop) where
+  abbrev t : List ℕ
+  t = s .args .table .now
 
-number : (s : tie.Start Inv-loop μ-loop) → getD (s .args .productions .now) (s .args .q) 0 < 64
-number s =
-    let a = s .args in
-    let h = s .pre .0 in
-    omega (arith, number-in (a .table .now) (a .productions .now) (h .judged) (h .sound) (a .q) (s .pre .1 .1 .0), limits (a .table .now) (h .judged) .productions)
+  abbrev ns : List ℕ
+  ns = s .args .productions .now
 
-counted : (n : tie.After-child-count Inv-loop μ-loop) → n .child-count .result ≡ childCount (st (ko n) .args .table .now) (getD (st (ko n) .args .productions .now) (st (ko n) .args .q) 0)
-counted n = n .child-count .ensures ∙ ap (childCount (st (ko n) .args .table .now)) (n .before .wide .ensures .0)
+  number-at : (m : ℕ) → m < length ns → getD ns m 0 < 64
+  number-at m h = omega (arith, number-in t ns (s .pre .0 .judged) (s .pre .0 .sound) m h, limits t (s .pre .0 .judged) .productions)
 
-few : (n : tie.After-child-count Inv-loop μ-loop) → n .child-count .result ≤ 4
-few n = let s = st (ko n) in omega (arith, counted n, few-children (s .args .table .now) (s .args .productions .now) (s .pre .0) (s .args .q) (s .pre .1 .1 .0))
+-- the node's production and its children
+module _ (n : tie.After-wide Inv-loop μ-loop) where
+  abbrev s : tie.Start Inv-loop μ-loop
+  s = st n
 
-first : tie.Need-wire-position-requires Inv-loop μ-loop
+  production : n .wide .result ≡ getD (ns s) (s .args .q) 0
+  production = n .wide .ensures .0
+
+  counted : s .args .children ≡ childCount (t s) (getD (ns s) (s .args .q) 0)
+  counted = s .pre .1 .1 .0
+
+  few : (n .wide .result < 64) × (s .args .children ≤ 4)
+  few = (omega (arith, production, number-at s (s .args .q) (s .pre .1 .0)), omega (arith, counted, few-children (t s) (ns s) (s .pre .0) (s .args .q) (s .pre .1 .0)))
+
+-- ---- position 0
+
+synthesized-small : (g : tie.After-left-of Inv-loop μ-loop) → g .left-of .result < 32
+synthesized-small g =
+    let s = st (g .before) in
+    rw (g .left-of .ensures, production (g .before)) (symbol-small (t s) (ns s) (s .pre .0) (s .args .q) (s .pre .1 .0) 0 zero-le)
+
+every-first : (c : tie.After-synthesized-of Inv-loop μ-loop) →
+    let s = st (c .before .before) in c .synthesized-of .result % 256 ≡ defined (t s) (getD (ns s) (s .args .q) 0) 0
+every-first c =
+    let n = c .before .before in
+    let s = st n in
+    let e : c .synthesized-of .result ≡ synthesized (t s) (leftOf (t s) (getD (ns s) (s .args .q) 0)) = c .synthesized-of .ensures ∙ ap (synthesized (t s)) (c .before .left-of .ensures ∙ ap (leftOf (t s)) (production n)) in
+    let f : defined (t s) (getD (ns s) (s .args .q) 0) 0 ≤ 4 = shaped (t s) (ns s) (s .pre .0) (s .args .q) (s .pre .1 .0) .few 0 zero-le in
+    let g : c .synthesized-of .result ≤ 4 = rw e f in
+    let h : c .synthesized-of .result % 256 ≡ c .synthesized-of .result = omega (arith, g) in
+    h ∙ e
+
+first : tie.Need-wire-sets-requires Inv-loop μ-loop
 first c κs =
-    let n = cc c in
-    let s = st (ko n) in
+    let g = summed c in
+    let n = g .before .before in
+    let s = st n in
     let z : 20 * s .args .q + 4 * 0 ≡ 20 * s .args .q = omega arith in
-    (s .pre .0, (s .pre .1 .1 .0, (zero-le, (ko n .kids-of .ensures, (s .pre .1 .1 .1 .0, rw z (s .pre .1 .1 .1 .1))))))
+    let f : 8 * s .args .q ≡ 8 * s .args .q + 0 = omega arith in (
+      s .pre .0,
+      (
+        s .pre .1 .0,
+        (
+          record {
+            within = zero-le;
+            rules = omega (arith, production n);
+            words = omega arith;
+            slots = f;
+            every = every-first g;
+          },
+          (s .pre .1 .1 .1 .0, (s .pre .1 .1 .1 .1 .0, (s .pre .1 .1 .1 .1 .1 .0, rw z (s .pre .1 .1 .1 .1 .1 .1)))),
+        ),
+      ),
+    )
 
-other : tie.Need-wire-position-requires-2 Inv-loop μ-loop
-other c κs =
-    let i = inside c in
-    let n = nth (i .before) in
-    let s = st (ko n) in
-    let k = i .before .loop in
-    (s .pre .0, (s .pre .1 .1 .0, (omega (arith, counted n, i .loop-test .taken), (ko n .kids-of .ensures, (stay-room (stay-trans (zeroth (i .before .before) .wire-position .ensures .1) (k .inv .2)) (s .pre .1 .1 .1 .0), k .inv .1)))))
+-- ---- a child's position
+
+first-is : (at : ℕ) → 1 ≤ at → firstIndex at ≡ 4
+first-is zero h = absurd (omega arith)
+first-is (suc k) h = omega arith
+
+module _ (c : tie.In-loop Inv-loop μ-loop) where
+  abbrev l : tie.At-loop Inv-loop μ-loop
+  l = c .before
+
+  abbrev n : tie.After-wide Inv-loop μ-loop
+  n = nth l
+
+  abbrev o : tie.Start Inv-loop μ-loop
+  o = s n
+
+  abbrev at : ℕ
+  at = l .loop .at
+
+  within : at ≤ childCount (t o) (getD (ns o) (o .args .q) 0)
+  within = omega (arith, counted n, l .loop .inv .0, c .loop-test .taken)
+
+  positions : at ≤ 4
+  positions = omega (arith, within, counted n, few n)
+
+module _ (x : tie.After-wide16 Inv-loop μ-loop) where
+  abbrev c : tie.In-loop Inv-loop μ-loop
+  c = inside x
+
+  -- the first instance of the node at the position
+  slot : x .wide16 .result ≡ 8 * spot (t (o c)) (ns (o c)) (o c .args .q) (at c)
+  slot =
+      let z : 256 * at c + 0 ≡ 256 * at c = omega arith in
+      let w = o c .pre .1 .1 .1 .1 .0 .names (at c) 0 (within c) (omega arith) in
+      x .wide16 .ensures ∙ omega (arith, rw z at w)
+
+  node : x .wide16 .result / 8 ≡ spot (t (o c)) (ns (o c)) (o c .args .q) (at c)
+  node = omega (arith, slot)
+
+  node-in : x .wide16 .result / 8 < length (ns (o c))
+  node-in = rw node (spot-below (t (o c)) (ns (o c)) (o c .pre .0) (o c .args .q) (o c .pre .1 .0) (at c) (within c))
+
+symbol-is : (g : tie.After-left-of2 Inv-loop μ-loop) → let i = c (g .before .before .before) in
+    g .left-of2 .result ≡ leftOf (t (o i)) (getD (ns (o i)) (spot (t (o i)) (ns (o i)) (o i .args .q) (at i)) 0)
+symbol-is g =
+    let x = g .before .before .before in
+    let i = c x in
+    g .left-of2 .ensures ∙ ap (leftOf (t (o i))) (g .before .wide2 .ensures .0 ∙ ap (λ m. getD (ns (o i)) m 0) (node x))
+
+other : tie.Need-wire-sets-requires-2 Inv-loop μ-loop
+other k κs =
+    let h = looked k in
+    let x = h .before .before .before .before in
+    let i = c x in
+    let s = o i in
+    let v = l i .loop .inv in (
+      s .pre .0,
+      (
+        s .pre .1 .0,
+        (
+          record {
+            within = within i;
+            rules = omega (arith, production (n i), v .0);
+            words = omega (arith, v .0);
+            slots = omega (arith, slot x, first-is (at i) (v .0 .0));
+            every = h .inherited-of .ensures ∙ ap (inherited (t s)) (symbol-is (h .before)) ∙ child-sets (t s) (ns s) (s .pre .0) (s .args .q) (s .pre .1 .0) (at i) (v .0 .0) (within i);
+          },
+          (s .pre .1 .1 .1 .0, (s .pre .1 .1 .1 .1 .0, (stay-room (stay-trans (zeroth (l i .before) .wire-sets .ensures .1) (v .2)) (s .pre .1 .1 .1 .1 .1 .0), v .1))),
+        ),
+      ),
+    )
 
 again : tie.Need-loop-again Inv-loop μ-loop
-again c =
-    let w = wired c in
-    let i = inside (w .before) in
-    let e = w .wire-position2 .ensures in
-    (omega (arith, i .loop-test .taken), e .0, stay-trans (i .before .loop .inv .2) (e .1))
+again k =
+    let w = wired k in
+    let i = c (looked (w .before) .before .before .before .before) in
+    let v = l i .loop .inv in
+    let e = w .wire-sets2 .ensures in
+    ((omega arith, omega (arith, v .0), omega (arith, v .0), omega (arith, v .0, i .loop-test .taken)), e .0, stay-trans (v .2) (e .1))
 
-stays : (c : tie.After-loop Inv-loop μ-loop) →
-    let a = st (ko (nth (c .before))) .args in
-    let l = c .before .loop in
+stays : (k : tie.After-loop Inv-loop μ-loop) →
+    let a = s (nth (k .before)) .args in
+    let l = k .before .loop in
     Stay (8 * length (a .productions .now)) (a .a .now) (a .b .now) (a .left .now) (a .rule .now) (l .a) (l .b) (l .left) (l .rule)
-stays c = stay-trans (zeroth (c .before .before) .wire-position .ensures .1) (c .before .loop .inv .2)
+stays k = stay-trans (zeroth (k .before .before) .wire-sets .ensures .1) (k .before .loop .inv .2)
 
 returns : tie.Need-returns Inv-loop μ-loop
-returns c =
-    let n = nth (c .before) in
-    let s = st (ko n) in
-    let k = c .before .loop in
-    (skip-rest (s .args .table .now) (s .args .productions .now) (s .pre .0) (s .args .q) (s .pre .1 .1 .0) (k .at) _ _ _ _ (omega (arith, counted n, c .loop-test .left)) (k .inv .1), stays c)
+returns k =
+    let n = nth (k .before) in
+    let a = s n in
+    let v = k .before .loop .inv in
+    (skip-rest (t a) (ns a) (a .pre .0) (a .args .q) (a .pre .1 .0) (k .before .loop .at) _ _ _ _ (omega (arith, counted n, v .0, k .loop-test .left)) (v .1), stays k)
 
 pub wire-node-spec : {M : Type 1} → statement M
 wire-node-spec =
@@ -95,18 +209,36 @@ wire-node-spec =
     (tie.spec
     Inv-loop
     μ-loop
-    (λ c κs. let s = c .before .before .before .before .before .before .before in (s .pre .0, (s .pre .1 .0, (s .pre .1 .1 .0, refl))))
-    (λ c. st (c .before) .pre .1 .1 .0)
+    (λ c. c .before .before .before .before .before .before .pre .1 .0)
     (λ c κs. search needs)
-    (λ c κs. omega (arith, c .wide .ensures .0, number (st (c .before .before))))
+    (λ c. omega (arith, few c))
+    (λ c. omega (arith, few c))
+    (λ c. omega (arith, few c))
+    (λ c. omega (arith, few c))
+    (λ c. omega (arith, few c))
+    (λ c. omega (arith, few c))
+    (λ c κs. omega (arith, few c))
+    (λ c κs. synthesized-small c)
+    (λ c. let s = st (c .before .before) in omega (arith, s .pre .1 .0, s .pre .0 .few))
     first
-    (λ c. (omega arith, zeroth c .wire-position .ensures .0, stay-refl _ _ _ _ _))
+    (λ k. ((omega arith, omega arith, omega arith, omega arith), zeroth k .wire-sets .ensures .0, stay-refl _ _ _ _ _))
+    (λ c. omega (arith, c .loop-test .taken, few (n c)))
+    (λ c. omega (arith, l c .loop .inv .0, positions c, few (n c)))
+    (λ c. omega (arith, positions c))
+    (λ c. omega (arith, positions c))
+    (λ c. omega (arith, positions c))
+    (λ c κs. search needs)
+    (λ k. node-in (k .before))
+    (λ k κs. search needs)
+    (λ k κs. let x = k .before .before in rw (k .wide2 .ensures .0) (number-at (o (c x)) (x .wide16 .result / 8) (node-in x)))
+    (λ k. let x = k .before .before .before in omega (arith, node-in x, o (c x) .pre .0 .few))
+    (λ k κs. let i = c (k .before .before .before) in rw (symbol-is k) (symbol-small (t (o i)) (ns (o i)) (o i .pre .0) (o i .args .q) (o i .pre .1 .0) (at i) (within i)))
     other
-    (λ c. let i = inside (wired c .before) in omega (arith, i .loop-test .taken, few (nth (i .before))))
-    (λ c. omega (arith, inside (wired c .before) .loop-test .taken))
+    (λ k. omega (arith, positions (c (looked (wired k .before) .before .before .before .before))))
+    (λ k. omega (arith, c (looked (wired k .before) .before .before .before .before) .loop-test .taken))
     again
-    (λ c. stays c .firsts .long)
-    (λ c. stays c .seconds .long)
-    (λ c. stays c .lefts .long)
-    (λ c. stays c .rules .long)
+    (λ k. stays k .firsts .long)
+    (λ k. stays k .seconds .long)
+    (λ k. stays k .lefts .long)
+    (λ k. stays k .rules .long)
     returns)
