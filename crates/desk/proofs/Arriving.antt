@@ -3,13 +3,12 @@ use mathlib.Core.Path.{_≡_, refl, ap, sym, _∙_}
 use mathlib.Core.Bool.{Bool, true, false, cond, true≢false}
 use mathlib.Core.List.{List, [], _∷_}
 use mathlib.Core.Logic.{_⊎_, inl, inr, ⊎-elim}
-use Prim.Native.Nat.{ℕ, zero, suc, _+_, _-_, _≤_, _<_}
+use Prim.Native.Nat.{ℕ, zero, suc, _-_, _≤_, _<_}
 use native.Mathlib.Omega.{arith}
 use borrow.Author.Tests.{eqb-true, eq-eqb}
 use lib.Dec.{eqb}
 use lib.ListN.{getD}
 use Rattle.lines.proofs.Values.{lt-or-ge}
-use Rattle.table.specs.First.{orElse}
 use Rattle.table.specs.Judge.{refusalAt}
 use Rattle.table.proofs.FirstLaws.{or-left, or-right}
 use Rattle.table.proofs.Refused.{frame-most}
@@ -22,7 +21,7 @@ use Rattle.desk.specs.Desk.{Tests}
 use Rattle.desk.specs.Refusals.{frameRefusal, placeOf, alike, meets, walkRefusal, sofarRefusal}
 use Rattle.desk.specs.Refused.{Comes, first, next, StopsBefore}
 use Rattle.desk.proofs.Deciding.{tested-not}
-use Rattle.desk.proofs.Walking.{rankOf, low-rank, OnTheWay, begins, passes, goes-on, none-left}
+use Rattle.desk.proofs.Walking.{low-rank, OnTheWay, begins, passes, goes-on, none-left}
 
 -- ---- a frame, and the expected one
 

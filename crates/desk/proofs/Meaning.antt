@@ -1,19 +1,17 @@
 -- What the tests of a state say: long enough buffers, and a line that is begun. Assumes nothing.
-use mathlib.Core.Path.{_≡_, refl, ap, sym, _∙_}
-use mathlib.Core.Bool.{true, false, true≢false}
+use mathlib.Core.Path.{_≡_, sym, _∙_}
+use mathlib.Core.Bool.{false, true≢false}
 use mathlib.Core.List.{List}
 use mathlib.Core.Logic.{⊎-elim}
 use Prim.Native.Nat.{ℕ, _≤_, _<_}
 use native.Mathlib.Omega.{arith}
-use borrow.Author.Tests.{ltb-false, le-ltb, eqb-true, eq-eqb, ne-eqb}
-use lib.Dec.{ltb, eqb}
+use borrow.Author.Tests.{ltb-false, le-ltb, eq-eqb, ne-eqb}
+use lib.Dec.{eqb}
 use lib.ListN.{length, take, getD, length-take, List·getD-eq-default}
 use lib.Seq.{getD-take}
 use Rattle.lines.proofs.Values.{lt-or-ge}
-use Rattle.table.specs.First.{someBelow}
 use Rattle.table.proofs.FirstLaws.{some-none, some-all}
 use Rattle.climb.proofs.Lists.{or-false-is}
-use Rattle.update.specs.Refusals.{short}
 use Rattle.update.proofs.Within.{short-means}
 use Rattle.hearing.specs.Owed.{Begun}
 use Rattle.desk.specs.Desk.{Desk, Wide}

@@ -1,9 +1,9 @@
 -- Memory that is no session's is refused by each number exactly when its condition holds and none before it does. Assumes nothing.
 use mathlib.Core.Path.{_≡_, refl, sym, _∙_, subst}
-use mathlib.Core.Bool.{Bool, true, false, cond, _&&_, _||_, true≢false}
+use mathlib.Core.Bool.{Bool, true, false, _&&_, _||_, true≢false}
 use mathlib.Core.List.{List, [], _∷_}
 use mathlib.Core.Logic.{_⊎_, inl, inr, ⊎-elim, _↔_}
-use Prim.Native.Nat.{ℕ, zero, suc, _≤_, _<_}
+use Prim.Native.Nat.{ℕ, _≤_, _<_}
 use native.Mathlib.Omega.{arith}
 use borrow.Author.Tests.{eqb-true, le-leb, lt-leb}
 use lib.Dec.{eqb}
@@ -27,9 +27,9 @@ use Rattle.hearing.specs.declared.Order.{Order}
 use Rattle.hearing.specs.declared.Mode.{Mode}
 use Rattle.hearing.specs.declared.Mode.the-variants.{Table, Command, Nodes, Working, Stopped}
 use Rattle.frames.specs.declared.Expected.{Expected}
-use Rattle.desk.specs.Desk.{Desk, Wide, Fits, tableOf}
+use Rattle.desk.specs.Desk.{Desk, Wide, tableOf}
 use Rattle.desk.specs.Refusals.{narrow, overrun, sofarRefusal, keptNumbers, modeRefusal, settledNumbers, stateRefusal}
-use Rattle.desk.specs.Refused.{By1to5, By6or7, By11, By16, By17, settled, StateGives, AllStateGives}
+use Rattle.desk.specs.Refused.{By1to5, By6or7, By11, By16, By17, StateGives, AllStateGives}
 use Rattle.desk.proofs.Arriving.{sofar-none, none-sofar, stops-to, stops-from, ends-to, ends-from, sofar-low}
 use Rattle.desk.proofs.Meaning.{narrow-means, overrun-means}
 

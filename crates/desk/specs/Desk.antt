@@ -4,7 +4,6 @@ use mathlib.Core.Bool.{Bool, true}
 use mathlib.Core.List.{List, _++_}
 use Prim.Native.Nat.{ℕ, _≤_}
 use lib.ListN.{length, take}
-use Rattle.update.specs.declared.Record.{Record}
 use Rattle.update.specs.Records.{emptyRecord}
 use Rattle.update.specs.Memories.{Memory}
 use Rattle.update.specs.Within.{Roomy}

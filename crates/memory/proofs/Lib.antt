@@ -1,4 +1,3 @@
-pub mod Moves
 pub mod Placed
 pub mod Slots
 pub mod Arranged

@@ -1,3 +1,2 @@
 // The memory that the caller lends: what a load and a replacement make of it.
-mod buffers;
 pub mod placing;

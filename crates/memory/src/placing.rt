@@ -1,5 +1,4 @@
 // What a load and a replacement make of the lent memory: the held tree's productions and own sets, its attribute sets and their before values.
-use super::buffers;
 use table::inherited_of;
 use table::left_of;
 use table::synthesized_of;

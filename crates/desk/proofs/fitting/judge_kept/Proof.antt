@@ -1,5 +1,5 @@
 -- The ground, and then the tree where one is held. Assumes nothing.
-use mathlib.Core.Path.{_≡_, refl, sym, _∙_}
+use mathlib.Core.Path.{_≡_, sym, _∙_}
 use mathlib.Core.Bool.{true, false, cond}
 use mathlib.Core.List.{List, [], _∷_}
 use Prim.Native.Nat.{ℕ}
@@ -13,7 +13,7 @@ use Rattle.update.specs.declared.Record.{Record}
 use Rattle.update.specs.Memories.{Memory}
 use Rattle.update.specs.Refusals.{firstRefusal, heldRefusal}
 use Rattle.engine.specs.Lent.{lent}
-use Rattle.engine.specs.Order.{groundNumbers, heldNumbers, Grounded}
+use Rattle.engine.specs.Order.{groundNumbers, heldNumbers}
 use Rattle.engine.proofs.Orders.{grounded, past, stopped}
 use Rattle.desk.specs.Refusals.{keptNumbers}
 use Rattle.desk.proofs.fitting.judge_kept.Statement.{statement}

@@ -2,7 +2,7 @@
 use mathlib.Core.Path.{_≡_, refl, ap, sym, _∙_}
 use mathlib.Core.Bool.{Bool, true, false}
 use mathlib.Core.List.{List}
-use Prim.Native.Nat.{ℕ, suc, _-_, _<_, _≤_}
+use Prim.Native.Nat.{ℕ, suc, _-_, _<_}
 use native.Mathlib.Omega.{arith}
 use borrow.Author.Needs.{needs}
 use Rattle.refusal.specs.Numbers.{numberOf}
@@ -11,7 +11,6 @@ use Rattle.refusal.proofs.Distinct.{number-low, sound-zero, refused-number}
 use Rattle.frames.specs.Walk.{nextOf, isOn}
 use Rattle.texts.specs.Read.{Sofar}
 use Rattle.frames.specs.declared.Expected.{Expected}
-use Rattle.frames.specs.declared.Expected.the-variants.{AtHeader}
 use Rattle.texts.proofs.Sofar.{awaits-so}
 use Rattle.desk.specs.Desk.{Tests}
 use Rattle.desk.specs.Refusals.{frameRefusal, meets, walkRefusal, sofarRefusal}

@@ -1,15 +1,14 @@
 -- The line first, and then what each mode goes with. Assumes nothing.
 use mathlib.Core.Path.{_≡_, refl, sym, _∙_}
 use mathlib.Core.Bool.{Bool, true, false}
-use mathlib.Core.List.{List, [], _∷_}
+use mathlib.Core.List.{List}
 use mathlib.Core.Logic.{⊎-elim}
 use Prim.Native.Nat.{ℕ, _≤_, _<_}
 use native.Mathlib.Omega.{arith}
 use borrow.Author.Needs.{needs}
 use borrow.Author.Tests.{not-true, not-false, le-leb, lt-leb}
-use lib.Dec.{leb}
 use lib.ListN.{take}
-use Rattle.table.specs.First.{orElse, first}
+use Rattle.table.specs.First.{first}
 use Rattle.climb.proofs.Lists.{either}
 use Rattle.update.specs.Memories.{Memory}
 use Rattle.update.specs.Refusals.{firstRefusal, stepRefusal}
@@ -77,13 +76,13 @@ judge-state-spec =
     (λ c. search needs)
     (λ c κs. search needs)
     (λ c. search needs)
-    (λ c. let a = c .before .before .before .before .before .before .before .before .before .before .before .before .args in let g = c .before .before .mode2 .given in settles (a .state) (a .table .now) (a .window .now) (lent (a .held .now) (a .held-owns .now) (a .sets .now) (a .before .now)) _ (c .before .before .before .before .before .before .is-begun .ensures) (Nodes (g .0 .0) (g .0 .1 .0) (g .0 .1 .1 .0) (g .0 .1 .1 .1 .0)) _ (not-false (c .before .before .before .before .before .before .is-begun .result) (c .before .before .before .before .before .if1 .left)) (g .1) (no-room (a .state) (a .table .now) (a .window .now) (lent (a .held .now) (a .held-owns .now) (a .sets .now) (a .before .now)) _ (c .before .before .before .before .before .before .is-begun .ensures) (g .0 .0) (g .0 .1 .0) (g .0 .1 .1 .0) (g .0 .1 .1 .1 .0) (c .if2 .taken)))
+    (λ c. let a = c .before .before .before .before .before .before .before .before .before .before .before .before .args in let g = c .before .before .mode2 .given in settles (a .state) (a .table .now) (a .window .now) (lent (a .held .now) (a .held-owns .now) (a .sets .now) (a .before .now)) _ (c .before .before .before .before .before .before .is-begun .ensures) (Nodes (g .0 .0) (g .0 .1 .0) (g .0 .1 .1 .0) (g .0 .1 .1 .1 .0)) _ (not-false (c .before .before .before .before .before .before .is-begun .result) (c .before .before .before .before .before .if1 .left)) (g .1) (no-room (a .state) (a .table .now) (a .window .now) (lent (a .held .now) (a .held-owns .now) (a .sets .now) (a .before .now)) _ (c .before .before .before .before .before .before .is-begun .ensures) (g .0 .0) (g .0 .1 .0) (g .0 .1 .1 .0) (g .0 .1 .1 .1 .0) (omega (arith, c .if2 .taken))))
     (λ c κs. search needs)
     (λ c. search needs)
     (λ c κs. search needs)
     (λ c. search needs)
     (λ c. let a = c .before .before .before .before .before .before .before .before .before .before .before .before .args in let g = c .before .before .mode .given in settles (a .state) (a .table .now) (a .window .now) (lent (a .held .now) (a .held-owns .now) (a .sets .now) (a .before .now)) _ (c .before .before .before .before .before .before .is-begun .ensures) (Table (g .0 .0)) _ (not-false (c .before .before .before .before .before .before .is-begun .result) (c .before .before .before .before .before .if1 .left)) (g .1) (c .judge-so-far .ensures ∙ table (a .state) (a .table .now) (a .window .now) (lent (a .held .now) (a .held-owns .now) (a .sets .now) (a .before .now)) _ (c .before .before .before .before .before .before .is-begun .ensures) (g .0 .0)))
     (λ c. let a = c .before .before .before .before .before .before .before .before .before .before .before .args in settles (a .state) (a .table .now) (a .window .now) (lent (a .held .now) (a .held-owns .now) (a .sets .now) (a .before .now)) _ (c .before .before .before .before .before .is-begun .ensures) Command _ (not-false (c .before .before .before .before .before .is-begun .result) (c .before .before .before .before .if1 .left)) (c .before .enum-told .given .1) (c .judge-kept .ensures ∙ command (a .state) (a .table .now) (a .window .now) (lent (a .held .now) (a .held-owns .now) (a .sets .now) (a .before .now)) _ (c .before .before .before .before .before .is-begun .ensures)))
-    (λ c. let a = c .before .before .before .before .before .before .before .before .before .before .before .before .before .args in let g = c .before .before .before .mode2 .given in settles (a .state) (a .table .now) (a .window .now) (lent (a .held .now) (a .held-owns .now) (a .sets .now) (a .before .now)) _ (c .before .before .before .before .before .before .before .is-begun .ensures) (Nodes (g .0 .0) (g .0 .1 .0) (g .0 .1 .1 .0) (g .0 .1 .1 .1 .0)) _ (not-false (c .before .before .before .before .before .before .before .is-begun .result) (c .before .before .before .before .before .before .if1 .left)) (g .1) (c .judge-kept2 .ensures ∙ node (a .state) (a .table .now) (a .window .now) (lent (a .held .now) (a .held-owns .now) (a .sets .now) (a .before .now)) _ (c .before .before .before .before .before .before .before .is-begun .ensures) (g .0 .0) (g .0 .1 .0) (g .0 .1 .1 .0) (g .0 .1 .1 .1 .0) (c .before .if2 .left)))
+    (λ c. let a = c .before .before .before .before .before .before .before .before .before .before .before .before .before .args in let g = c .before .before .before .mode2 .given in settles (a .state) (a .table .now) (a .window .now) (lent (a .held .now) (a .held-owns .now) (a .sets .now) (a .before .now)) _ (c .before .before .before .before .before .before .before .is-begun .ensures) (Nodes (g .0 .0) (g .0 .1 .0) (g .0 .1 .1 .0) (g .0 .1 .1 .1 .0)) _ (not-false (c .before .before .before .before .before .before .before .is-begun .result) (c .before .before .before .before .before .before .if1 .left)) (g .1) (c .judge-kept2 .ensures ∙ node (a .state) (a .table .now) (a .window .now) (lent (a .held .now) (a .held-owns .now) (a .sets .now) (a .before .now)) _ (c .before .before .before .before .before .before .before .is-begun .ensures) (g .0 .0) (g .0 .1 .0) (g .0 .1 .1 .0) (g .0 .1 .1 .1 .0) (omega (arith, c .before .if2 .left))))
     (λ c. let a = c .before .before .before .before .before .before .before .before .before .before .before .before .args in let g = c .before .before .mode3 .given in settles (a .state) (a .table .now) (a .window .now) (lent (a .held .now) (a .held-owns .now) (a .sets .now) (a .before .now)) _ (c .before .before .before .before .before .before .is-begun .ensures) (Working (g .0 .0)) _ (not-false (c .before .before .before .before .before .before .is-begun .result) (c .before .before .before .before .before .if1 .left)) (g .1) (c .judge-step .ensures ∙ working (a .state) (a .table .now) (a .window .now) (lent (a .held .now) (a .held-owns .now) (a .sets .now) (a .before .now)) _ (c .before .before .before .before .before .before .is-begun .ensures) (g .0 .0)))
     (λ c. let a = c .before .before .before .before .before .before .before .before .before .before .args in settles (a .state) (a .table .now) (a .window .now) (lent (a .held .now) (a .held-owns .now) (a .sets .now) (a .before .now)) _ (c .before .before .before .before .is-begun .ensures) Stopped _ (not-false (c .before .before .before .before .is-begun .result) (c .before .before .before .if1 .left)) (c .enum-told2 .given .1) (over (a .state) (a .table .now) (a .window .now) (lent (a .held .now) (a .held-owns .now) (a .sets .now) (a .before .now)) _ (c .before .before .before .before .is-begun .ensures))))

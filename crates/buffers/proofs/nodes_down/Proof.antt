@@ -3,9 +3,9 @@ use mathlib.Core.Path.{_≡_}
 use Prim.Native.Nat.{_-_}
 use native.Mathlib.Omega.{arith}
 use lib.ListN.{drop, length-drop}
-use Rattle.memory.proofs.Moves.{Pasting, pasting, pasting-next, pasted, still}
-use Rattle.memory.proofs.buffers.nodes_down.Statement.{statement}
-use Rattle.memory.proofs.buffers.nodes_down.Tie as tie
+use Rattle.buffers.proofs.Moves.{Pasting, pasting, pasting-next, pasted, still}
+use Rattle.buffers.proofs.nodes_down.Statement.{statement}
+use Rattle.buffers.proofs.nodes_down.Tie as tie
 
 abbrev Inv-loop : tie.InvT-loop
 Inv-loop held₀ «from» to count i₀ held i = Pasting held₀ to (drop «from» held₀) count i held

@@ -1,9 +1,9 @@
 -- Down, up, or nothing to do. Assumes nothing.
 use native.Mathlib.Omega.{arith}
 use borrow.Author.Needs.{needs}
-use Rattle.memory.proofs.Moves.{stays}
-use Rattle.memory.proofs.buffers.move_sets.Statement.{statement}
-use Rattle.memory.proofs.buffers.move_sets.Tie as tie
+use Rattle.buffers.proofs.Moves.{stays}
+use Rattle.buffers.proofs.move_sets.Statement.{statement}
+use Rattle.buffers.proofs.move_sets.Tie as tie
 
 pub move-sets-spec : {M : Type 1} → statement M
 move-sets-spec =

@@ -3,9 +3,9 @@ use mathlib.Core.Path.{_≡_}
 use Prim.Native.Nat.{_-_}
 use native.Mathlib.Omega.{arith}
 use lib.ListN.{drop, length-drop}
-use Rattle.memory.proofs.Moves.{Pasting, pasting, pasting-next, pasted, still}
-use Rattle.memory.proofs.buffers.sets_down.Statement.{statement}
-use Rattle.memory.proofs.buffers.sets_down.Tie as tie
+use Rattle.buffers.proofs.Moves.{Pasting, pasting, pasting-next, pasted, still}
+use Rattle.buffers.proofs.sets_down.Statement.{statement}
+use Rattle.buffers.proofs.sets_down.Tie as tie
 
 abbrev Inv-loop : tie.InvT-loop
 Inv-loop sets₀ «from» to count i₀ sets i = Pasting sets₀ to (drop «from» sets₀) count i sets

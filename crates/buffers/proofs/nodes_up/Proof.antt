@@ -2,9 +2,9 @@
 use mathlib.Core.Path.{_≡_}
 use Prim.Native.Nat.{_-_}
 use native.Mathlib.Omega.{arith}
-use Rattle.memory.proofs.Moves.{Raising, raising, raising-next, raised}
-use Rattle.memory.proofs.buffers.nodes_up.Statement.{statement}
-use Rattle.memory.proofs.buffers.nodes_up.Tie as tie
+use Rattle.buffers.proofs.Moves.{Raising, raising, raising-next, raised}
+use Rattle.buffers.proofs.nodes_up.Statement.{statement}
+use Rattle.buffers.proofs.nodes_up.Tie as tie
 
 abbrev Inv-loop : tie.InvT-loop
 Inv-loop held₀ «from» to count left₀ held left = Raising held₀ «from» to count left held
