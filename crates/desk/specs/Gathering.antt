@@ -17,4 +17,4 @@ pub record Gathers (piece : List ℕ) (from : ℕ) (window : List ℕ) (begun n 
   pub decided : whole ≡ true → Whole (take n window′)
   pub moved : whole ≡ true → (from < place) × (place ≤ length piece)
   pub waits : whole ≡ false → Begun (take n window′)
-  pub used : whole ≡ false → length piece ≤ place
+  pub used : whole ≡ false → place ≡ from + (length piece - from)

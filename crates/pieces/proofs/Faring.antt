@@ -1,5 +1,5 @@
 -- From one desk to the next: bytes that are gathered, a line that is heard, rounds that are told; and turns in a row. Assumes nothing.
-use mathlib.Core.Path.{_≡_, refl, ap, sym, _∙_}
+use mathlib.Core.Path.{_≡_, refl, ap, sym, _∙_, subst}
 use mathlib.Core.Bool.{Bool, true, false, true≢false}
 use mathlib.Core.List.{List, [], _∷_, _++_, append-nil, append-assoc}
 use Prim.Native.Nat.{ℕ, zero, suc, _+_, _*_, _-_, _≤_, _<_, min}
@@ -7,8 +7,8 @@ use native.Mathlib.Omega.{arith}
 use native.Mathlib.Nat.{lt-of-not-le}
 use types.Run.{OneOf, miss}
 use denote.Enum.Declared.{tagOf}
-use lib.ListN.{length, take, drop, length-take, length-drop, length-append, take-append-drop}
-use lib.Seq.{sets, length-sets, length-take-le, take-all, take-at, drop-drop}
+use lib.ListN.{length, take, drop, length-take, length-drop, length-append, take-append-drop, drop-of-length-le}
+use lib.Seq.{sets, length-sets, length-take-le, take-all, take-at, drop-at, drop-drop}
 use Rattle.lines.proofs.Out.{sets-append}
 use Rattle.update.specs.declared.Record.{Record}
 use Rattle.update.specs.Memories.{Memory}
@@ -30,9 +30,12 @@ use Rattle.desk.specs.declared.State.{State}
 use Rattle.desk.specs.Desk.{Desk, desk, tableOf, lineOf, owedFor, Wide, Fits}
 use Rattle.desk.specs.Refusals.{settledNumbers, stateRefusal}
 use Rattle.pieces.specs.Feeding.{Feeds}
+use Rattle.desk.specs.Ending.{silent}
 use Rattle.desk.specs.Gathering.{Gathers}
 use Rattle.desk.proofs.Refusing.{given-wide, all-state-gives}
 use Rattle.pieces.proofs.Bounds.{Modest, heard-modest}
+use Rattle.pieces.specs.Running as running
+use Rattle.pieces.specs.Running.{Moment, moment, momentOf, afterRounds, Goes, Runs}
 use Rattle.pieces.specs.Faring.{Ready, Sized, Fares, atWork, toDo, Turns}
 
 -- ---- turns in a row
@@ -65,15 +68,47 @@ sized-on x y = record {
 pub sized-none : (d : Desk) → Sized d d
 sized-none d = record { window = refl; parts = refl; part-owns = refl; productions = refl; owns = refl; sets-size = refl; before = refl }
 
--- ---- a call's turns
+-- ---- a call's turns, one by one
 
-module _ {d d′ : Desk} {piece : List ℕ} {from place printed : ℕ} {out out′ : List ℕ} (x : Fares d piece from out 0 d′ place out′ printed) where
-  pub fares-out : length out′ ≡ length out
-  fares-out = ap length (x .shown) ∙ length-sets out 0 (x .text)
+-- from the call's start on, whatever turns follow
+pub record Since (d : Desk) (piece : List ℕ) (from : ℕ) (out : List ℕ) (p : Moment) : Type 0 where
+  pub size : length (d .words) ≡ 2657
+  pub onto : (q : Moment) (more : Bool) → Runs piece p q more → Runs piece (moment d from out 0) q more
+
+pub since-first : (d : Desk) (piece : List ℕ) (from : ℕ) (out : List ℕ) → Ready d out → Since d piece from out (moment d from out 0)
+since-first d piece from out h = record { size = h .size; onto = λ q more x. x }
+
+module _ {d e e′ : Desk} {piece : List ℕ} {from a b printed printed′ : ℕ} {out o o′ : List ℕ} {more : Bool}
+    (s : Since d piece from out (moment e a o printed)) (space : Spacious o printed) (t : Turns e piece a o printed e′ b o′ printed′ more) where
+  pub since-on : more ≡ true → Since d piece from out (moment e′ b o′ printed′)
+  since-on w = record { size = s .size; onto = λ q m x. s .onto q m (running.on space (subst (λ (k : Bool). Goes piece (moment e a o printed) (moment e′ b o′ printed′) k) w (t .goes)) x) }
+
+  pub since-last : more ≡ false → Runs piece (moment d from out 0) (moment e′ b o′ printed′) false
+  since-last w = s .onto _ _ (running.last space (subst (λ (k : Bool). Goes piece (moment e a o printed) (moment e′ b o′ printed′) k) w (t .goes)))
+
+pub since-full : {d e : Desk} {piece : List ℕ} {from a printed : ℕ} {out o : List ℕ} → Since d piece from out (moment e a o printed) → (printed + 94208 ≤ length o → ⊥)
+    → Runs piece (moment d from out 0) (moment e a o printed) true
+since-full s h = s .onto _ _ (running.full (λ (k : Spacious _ _). h (k .room)) refl)
+
+-- words that are a table's and no more
+table-alone : (d : Desk) (place : ℕ) (out : List ℕ) (printed : ℕ) → length (d .words) ≡ 2657 → moment d place out printed ≡ momentOf d place out printed
+table-alone d place out printed e j = moment (desk (sym (take-all 2657 (d .words) (omega arith)) j) (d .window) (d .parts) (d .partOwns) (d .memory) (d .state)) place out printed
+
+module _ {d d′ : Desk} {piece : List ℕ} {from place printed : ℕ} {out out′ : List ℕ} (x : Fares d piece from out 0 d′ place out′ printed) (size : length (d .words) ≡ 2657) where
+  over-tables : (more : Bool) → Runs piece (moment d from out 0) (moment d′ place out′ printed) more → Runs piece (momentOf d from out 0) (momentOf d′ place out′ printed) more
+  over-tables more r =
+      subst (λ (p : Moment). Runs piece p (momentOf d′ place out′ printed) more) (table-alone d from out 0 size)
+      (subst (λ (q : Moment). Runs piece (moment d from out 0) q more) (table-alone d′ place out′ printed (x .ready .size)) r)
+
+  nothing-behind : drop 2657 (d′ .words) ≡ drop 2657 (d .words)
+  nothing-behind =
+      let h : length (d′ .words) ≤ 2657 = omega (arith, x .ready .size) in
+      let k : length (d .words) ≤ 2657 = omega arith in
+      drop-of-length-le (d′ .words) h ∙ sym (drop-of-length-le (d .words) k)
 
   -- the last turn leaves nothing to do
-  pub fed-all : listens (d′ .state .mode) ≡ true → ((d′ .state .mode ≡ Stopped → ⊥) → length piece ≤ place) → Feeds d piece from out d′ place printed false out′
-  fed-all idle used = record {
+  pub fed-all : Runs piece (moment d from out 0) (moment d′ place out′ printed) false → listens (d′ .state .mode) ≡ true → ((d′ .state .mode ≡ Stopped → ⊥) → length piece ≤ place) → Feeds d piece from out d′ place printed false out′
+  fed-all runs idle used = record {
     text = x .text;
     fits = x .ready .fits;
     paid = x .paid;
@@ -83,11 +118,13 @@ module _ {d d′ : Desk} {piece : List ℕ} {from place printed : ℕ} {out out�
     idle = λ z. idle;
     used = λ z. used;
     full = λ z. absurd (true≢false (sym z));
+    runs = over-tables false runs;
+    words-rest = nothing-behind;
   }
 
   -- or what a line can print has no room
-  pub fed-full : (printed + 94208 ≤ length out′ → ⊥) → Feeds d piece from out d′ place printed true out′
-  fed-full h = record {
+  pub fed-full : Runs piece (moment d from out 0) (moment d′ place out′ printed) true → (printed + 94208 ≤ length out′ → ⊥) → Feeds d piece from out d′ place printed true out′
+  fed-full runs h = record {
     text = x .text;
     fits = x .ready .fits;
     paid = x .paid;
@@ -97,7 +134,12 @@ module _ {d d′ : Desk} {piece : List ℕ} {from place printed : ℕ} {out out�
     idle = λ z. absurd (true≢false z);
     used = λ z. absurd (true≢false z);
     full = λ z. omega (arith, x .ready .fits .wide .out-room, lt-of-not-le h);
+    runs = over-tables true runs;
+    words-rest = nothing-behind;
   }
+
+pub fares-out : {d d′ : Desk} {piece : List ℕ} {from place printed : ℕ} {out out′ : List ℕ} → Fares d piece from out 0 d′ place out′ printed → length out′ ≡ length out
+fares-out {out = out} x = ap length (x .shown) ∙ length-sets out 0 (x .text)
 
 -- ---- what is waited for
 
@@ -107,6 +149,20 @@ not-working Command k = refl
 not-working (Nodes order count taken line) k = refl
 not-working (Working turns) k = absurd (miss (0 ∷ 1 ∷ 2 ∷ 4 ∷ []) 3 tt k)
 not-working Stopped k = refl
+
+pub not-silent : (mode : Mode) → listens mode ≡ true → (mode ≡ Stopped → ⊥) → silent mode ≡ false
+not-silent (Table x) k h = refl
+not-silent Command k h = refl
+not-silent (Nodes order count taken line) k h = refl
+not-silent (Working turns) k h = absurd (true≢false (sym k))
+not-silent Stopped k h = absurd (h refl)
+
+listening : (mode : Mode) → silent mode ≡ false → listens mode ≡ true
+listening (Table x) k = refl
+listening Command k = refl
+listening (Nodes order count taken line) k = refl
+listening (Working turns) k = absurd (true≢false k)
+listening Stopped k = absurd (true≢false k)
 
 at-work-most : (mode : Mode) → atWork mode ≤ 1
 at-work-most (Table x) = omega arith
@@ -166,7 +222,7 @@ module _ (t w ps os : List ℕ) (m : Memory) (s : State) (piece : List ℕ) (fro
     abbrev begunThen : State
     begunThen = record { mode = s .mode; begun = n; line = s .line; «record» = s .«record» }
 
-    pub line-waits : whole ≡ false → listens (s .mode) ≡ true → Turns here piece from out printed (desk t w′ ps os m begunThen) place out printed false
+    pub line-waits : whole ≡ false → silent (s .mode) ≡ false → Turns here piece from out printed (desk t w′ ps os m begunThen) place out printed false
     line-waits e on = record {
       fares = record {
         text = [];
@@ -184,9 +240,10 @@ module _ (t w ps os : List ℕ) (m : Memory) (s : State) (piece : List ℕ) (fro
         next = omega arith;
         within = omega (arith, space .room);
       };
+      goes = running.waits n place w′ on (subst (λ (b : Bool). Gathers piece from w (s .begun) n place b w′) e g) refl;
       onward = λ z. absurd (true≢false (sym z));
-      idle = λ z. on;
-      used = λ z h. g .used e;
+      idle = λ z. listening (s .mode) on;
+      used = λ z h. omega (arith, g .used e);
     }
 
     -- or it is heard
@@ -200,9 +257,9 @@ module _ (t w ps os : List ℕ) (m : Memory) (s : State) (piece : List ℕ) (fro
       abbrev after : Desk
       after = desk t′ w′ ps′ os′ m′ (record { mode = told .mode; begun = 0; line = line′; «record» = told .«record» })
 
-      module _ (k : Sized here after) (yes : whole ≡ true) (on : listens (s .mode) ≡ true) where
+      module _ (k : Sized here after) (yes : whole ≡ true) (on : silent (s .mode) ≡ false) where
         pays : Pays (s .mode) t ps os m (s .«record») (s .line) (take n w′) heard
-        pays = line-pays (s .mode) t ps os m (s .«record») (s .line) (take n w′) on sound-here (ready .fits .wide .room) (ready .size) (ready .fits .wide .parts-room) (ready .fits .wide .owns-room) (g .decided yes)
+        pays = line-pays (s .mode) t ps os m (s .«record») (s .line) (take n w′) (listening (s .mode) on) sound-here (ready .fits .wide .room) (ready .size) (ready .fits .wide .parts-room) (ready .fits .wide .owns-room) (g .decided yes)
 
         bounds : Modest (length t) heard
         bounds = heard-modest (s .mode) frameOf (s .line) t ps os m (s .«record») sound-here
@@ -218,6 +275,9 @@ module _ (t w ps os : List ℕ) (m : Memory) (s : State) (piece : List ℕ) (fro
 
         owed-after : (u : List ℕ) → owedFor after u ≡ owed (heard .mode) (heard .words) (heard .parts) (heard .partOwns) (heard .memory) (heard .next) (lineAfter (s .line)) u
         owed-after u = rw (table-after, h .parts-then, h .owns-then, h .memory, h .next, h .mode, e)
+
+        then-heard : moment after place out′ (told .printed) ≡ running.afterLine (moment here from out printed) place w′ heard
+        then-heard j = moment (desk (h .words-then j) w′ (h .parts-then j) (h .owns-then j) (h .memory j) (record { mode = h .mode j; begun = 0; line = e j; «record» = h .next j })) place (h .shown j) (h .place j)
 
         pub line-heard : Turns here piece from out printed after place out′ (told .printed) true
         line-heard = record {
@@ -241,6 +301,7 @@ module _ (t w ps os : List ℕ) (m : Memory) (s : State) (piece : List ℕ) (fro
             next = h .place;
             within = omega (arith, h .place, out-after, bounds .few, space .room);
           };
+          goes = running.hears n place w′ on (subst (λ (b : Bool). Gathers piece from w (s .begun) n place b w′) yes g) then-heard;
           onward = λ z. omega (arith, g .moved yes, at-work-most (told .mode), out-after, h .place);
           idle = λ z. absurd (true≢false z);
           used = λ z. absurd (true≢false z);
@@ -274,6 +335,11 @@ module _ (t w ps os : List ℕ) (m : Memory) (s : State) (piece : List ℕ) (fro
     at-work : atWork (s .mode) ≡ 1
     at-work = rw working
 
+    then-worked : moment then from out′ (told .printed) ≡ afterRounds (moment here from out printed) (running.roundsThen (moment here from out printed) turns)
+    then-worked =
+        (λ j. moment then from (h .shown j) (h .place j))
+        ∙ ap (afterRounds (moment here from out printed)) (sym (h .exactly))
+
     pub rounds-told : Sized here then → Turns here piece from out printed then from out′ (told .printed) true
     rounds-told k = record {
       fares = record {
@@ -292,6 +358,7 @@ module _ (t w ps os : List ℕ) (m : Memory) (s : State) (piece : List ℕ) (fro
         next = h .place;
         within = omega (arith, h .room, out-then);
       };
+      goes = running.works turns working then-worked;
       onward = λ z. omega (arith, at-work, out-then, rounds-less (h .rests) (told .printed) (space .room) (omega (arith, h .place)) (h .room));
       idle = λ z. absurd (true≢false z);
       used = λ z. absurd (true≢false z);
@@ -301,6 +368,7 @@ module _ (t w ps os : List ℕ) (m : Memory) (s : State) (piece : List ℕ) (fro
   pub over : s .mode ≡ Stopped → Turns here piece from out printed here from out printed false
   over e = record {
     fares = fares-none here piece from out printed ready (omega (arith, space .room));
+    goes = running.over e refl;
     onward = λ z. absurd (true≢false (sym z));
     idle = λ z. rw e;
     used = λ z h. absurd (h e);
@@ -360,4 +428,6 @@ module _ (words t w ps os : List ℕ) (m : Memory) (s : State) (out : List ℕ) 
         idle = f .idle;
         used = f .used;
         full = f .full;
+        runs = rw (same-table, back-table) (f .runs);
+        words-rest = ap (drop 2657) back ∙ drop-at t′ (drop 2657 words) 2657 size;
       }

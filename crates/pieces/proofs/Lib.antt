@@ -2,3 +2,4 @@ pub mod Bounds
 pub mod Cutting
 pub mod Faring
 pub mod Refusing
+pub mod Unique

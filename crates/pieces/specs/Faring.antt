@@ -10,6 +10,7 @@ use Rattle.hearing.specs.Laws.{listens}
 use Rattle.hearing.specs.declared.Mode.{Mode}
 use Rattle.hearing.specs.declared.Mode.the-variants.{Table, Command, Nodes, Working, Stopped}
 use Rattle.desk.specs.Desk.{Desk, Fits, owedFor}
+use Rattle.pieces.specs.Running.{moment, Goes}
 
 -- a desk whose words are a table's and no more
 pub record Ready (d : Desk) (out : List ℕ) : Type 0 where
@@ -48,6 +49,7 @@ toDo d piece place out printed = 2 * (length piece - place) + atWork (d .state .
 
 pub record Turns (d : Desk) (piece : List ℕ) (from : ℕ) (out : List ℕ) (printed : ℕ) (d′ : Desk) (place : ℕ) (out′ : List ℕ) (printed′ : ℕ) (more : Bool) : Type 0 where
   pub fares : Fares d piece from out printed d′ place out′ printed′
+  pub goes : Goes piece (moment d from out printed) (moment d′ place out′ printed′) more
   pub onward : more ≡ true → toDo d′ piece place out′ printed′ < toDo d piece from out printed
   pub idle : more ≡ false → listens (d′ .state .mode) ≡ true
   pub used : more ≡ false → (d′ .state .mode ≡ Stopped → ⊥) → length piece ≤ place

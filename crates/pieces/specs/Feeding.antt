@@ -12,6 +12,7 @@ use Rattle.hearing.specs.declared.Mode.the-variants.{Stopped}
 use Rattle.desk.specs.declared.State.{State}
 use Rattle.desk.specs.Desk.{Desk, Fits, owedFor}
 use Rattle.desk.specs.Refusals.{stateRefusal}
+use Rattle.pieces.specs.Running.{momentOf, Runs}
 use Rattle.pieces.specs.declared.Fed.{Fed}
 use Rattle.pieces.specs.declared.Fed.the-variants.{Taken, Refused}
 
@@ -31,6 +32,9 @@ pub record Feeds (d : Desk) (piece : List ℕ) (from : ℕ) (out : List ℕ) (d�
   pub used : more ≡ false → (d′ .state .mode ≡ Stopped → ⊥) → length piece ≤ place
   -- or much was printed, and the buffer has to be emptied first
   pub full : more ≡ true → 36864 < printed
+  -- nothing of it is left open: these are the turns of the call, and no word behind the table's is changed
+  pub runs : Runs piece (momentOf d from out 0) (momentOf d′ place out′ printed) more
+  pub words-rest : drop 2657 (d′ .words) ≡ drop 2657 (d .words)
 
 -- the answer for any state and any memory: where it is no session's, that is refused by its number, and nothing is changed
 pub data FeedSays (d : Desk) (piece : List ℕ) (from : ℕ) (out : List ℕ) (d′ : State → Desk) (out′ : List ℕ) : Fed → Type 0 where

@@ -2,3 +2,5 @@ pub mod Faring
 pub mod Feeding
 pub mod Laws
 pub mod Refused
+pub mod Running
+pub mod Unique

@@ -17,7 +17,7 @@ use refusal::Refusal;
 use refusal::Verdict;
 use update::Record;
 ghost use mathlib.Core.Path.{_≡_};
-ghost use mathlib.Core.Bool.{true};
+ghost use mathlib.Core.Bool.{false};
 ghost use Prim.Native.Nat.{_+_, _≤_};
 ghost use lib.ListN.{length, take};
 ghost use Rattle.frames.specs.Frames.{frameAt};
@@ -26,8 +26,8 @@ ghost use Rattle.engine.specs.Order.{Going};
 ghost use Rattle.hearing.specs.Owed.{Sound};
 ghost use Rattle.hearing.specs.Hearing.{hearing, Hears, Spacious};
 ghost use Rattle.hearing.specs.Telling.{RoundsTold};
-ghost use Rattle.hearing.specs.Laws.{listens};
 ghost use Rattle.desk.specs.Desk.{desk, Tests};
+ghost use Rattle.desk.specs.Ending.{silent};
 ghost use Rattle.pieces.specs.Feeding.{Feeds, FeedSays};
 ghost use Rattle.pieces.specs.Faring.{Ready, Turns};
 
@@ -142,7 +142,7 @@ fn listen(
     out: &mut [u8],
     printed: usize,
 ) -> Turned
-    requires { ⌜ Ready (desk (now table) (now window) (now parts) (now «part_owns») (lent (now held) (now «held_owns») (now sets) (now before)) state) (now out) × Spacious (now out) printed × (listens (state .mode) ≡ true) ⌝ }
+    requires { ⌜ Ready (desk (now table) (now window) (now parts) (now «part_owns») (lent (now held) (now «held_owns») (now sets) (now before)) state) (now out) × Spacious (now out) printed × (silent (state .mode) ≡ false) ⌝ }
     ensures { λ r. ⌜ Turns (desk (now (table .entry)) (now (window .entry)) (now (parts .entry)) (now («part_owns» .entry)) (lent (now (held .entry)) (now («held_owns» .entry)) (now (sets .entry)) (now (before .entry))) state) (now (piece .entry)) from (now (out .entry)) printed (desk (now (table .exit)) (now (window .exit)) (now (parts .exit)) (now («part_owns» .exit)) (lent (now (held .exit)) (now («held_owns» .exit)) (now (sets .exit)) (now (before .exit))) (r .state)) (r .place) (now (out .exit)) (r .printed) (r .more) ⌝ }
 {
     let g = gather(piece, from, window, state.begun);

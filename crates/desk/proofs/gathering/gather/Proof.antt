@@ -103,7 +103,7 @@ module _ (piece : List ℕ) (from : ℕ) (window₀ : List ℕ) (begun : ℕ) wh
       decided = λ t. absurd (let z : _≡_ {A = ℕ} 0 1 = cc in omega arith);
       moved = λ t. absurd (let z : _≡_ {A = ℕ} 0 1 = cc in omega arith);
       waits = λ t. record { few = omega (arith, size-of); no-end = λ i k e. clean-line i (omega (arith, size-of)) e };
-      used = λ t. u;
+      used = λ t. ⊎-elim (λ (k : from < at). let i = f .inside k in omega arith) (λ (k : at ≤ from). let o = f .onward in omega arith) (lt-or-ge from at);
     }
 
     full : begun ≤ 28 → 29 ≤ n → Gathers piece from window₀ begun n at true window

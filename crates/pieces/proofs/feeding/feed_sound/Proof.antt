@@ -1,6 +1,7 @@
--- The invariant: what was owed at first is what has been printed and what is owed now. What is left to do falls. Assumes nothing.
-use Rattle.pieces.proofs.Faring.{fares-none, fares-on, sized-none, sized-on, fares-out, fed-all, fed-full}
+-- The invariant: what was owed at first is what has been printed and what is owed now, and the turns that follow make the call. What is left to do falls. Assumes nothing.
+use Rattle.pieces.proofs.Faring.{Since, since-first, since-on, since-last, since-full, fares-none, fares-on, sized-none, sized-on, fares-out, fed-all, fed-full}
 use Rattle.desk.proofs.Deciding.{tested-not}
+use Rattle.pieces.specs.Running.{moment}
 use Rattle.pieces.specs.Faring.{Fares, Sized, toDo}
 use Rattle.desk.specs.Desk.{desk}
 use Rattle.engine.specs.Lent.{lent}
@@ -14,13 +15,14 @@ use Rattle.pieces.proofs.feeding.feed_sound.Tie as tie
 abbrev Inv-loop : tie.InvT-loop
 Inv-loop table₀ window₀ parts₀ part-owns₀ held₀ held-owns₀ sets₀ before₀ piece from out₀ now₀ at₀ printed₀ table window parts part-owns held held-owns sets before out now at printed =
     Fares (desk table₀ window₀ parts₀ part-owns₀ (lent held₀ held-owns₀ sets₀ before₀) now₀) piece from out₀ 0 (desk table window parts part-owns (lent held held-owns sets before) now) at out printed × Sized (desk table₀ window₀ parts₀ part-owns₀ (lent held₀ held-owns₀ sets₀ before₀) now₀) (desk table window parts part-owns (lent held held-owns sets before) now)
+    × Since (desk table₀ window₀ parts₀ part-owns₀ (lent held₀ held-owns₀ sets₀ before₀) now₀) piece from out₀ (moment (desk table window parts part-owns (lent held held-owns sets before) now) at out printed)
 
 abbrev μ-loop : tie.MeasureT-loop
 μ-loop table₀ window₀ parts₀ part-owns₀ held₀ held-owns₀ sets₀ before₀ piece from out₀ now₀ at₀ printed₀ table window parts part-owns held held-owns sets before out now at printed =
     toDo (desk table window parts part-owns (lent held held-owns sets before) now) piece at out printed
 
 loop-holds : tie.Need-loop-holds Inv-loop μ-loop
-loop-holds c = (fares-none _ _ _ _ _ (c .before .before .before .before .before .before .before .before .before .pre) (omega arith), sized-none _)
+loop-holds c = (fares-none _ _ _ _ _ (c .before .before .before .before .before .before .before .before .before .pre) (omega arith), sized-none _, since-first _ _ _ _ (c .before .before .before .before .before .before .before .before .before .pre))
 
 turn-requires : tie.Need-turn-requires Inv-loop μ-loop
 turn-requires c κs = (c .before .before .before .before .before .before .before .before .before .before .before .loop .inv .0 .ready, record { room = c .before .before .before .before .before .before .before .before .before .before .has-room .ensures .yes (c .before .before .before .before .before .before .before .before .before .if1 .taken) })
@@ -53,13 +55,13 @@ returns : tie.Need-returns Inv-loop μ-loop
 returns c =
     let t = c .before .before .before .before .before .before .before .before .before .before .before .before .before .before .before .before .before .before .before .turn .ensures in
     let e = not-true (c .before .before .before .before .before .before .before .before .before .before .before .before .before .before .before .before .before .before .before .turn .result .more) (c .if2 .taken) in
-    (fed-all (fares-on (c .before .before .before .before .before .before .before .before .before .before .before .before .before .before .before .before .before .before .before .before .before .before .before .before .before .before .before .before .before .before .before .loop .inv .0) (t .fares)) (t .idle e) (t .used e), t .fares .ready .size)
+    (fed-all (fares-on (c .before .before .before .before .before .before .before .before .before .before .before .before .before .before .before .before .before .before .before .before .before .before .before .before .before .before .before .before .before .before .before .loop .inv .0) (t .fares)) (c .before .before .before .before .before .before .before .before .before .before .before .before .before .before .before .before .before .before .before .before .before .before .before .before .before .before .before .before .before .before .before .loop .inv .2 .size) (since-last (c .before .before .before .before .before .before .before .before .before .before .before .before .before .before .before .before .before .before .before .before .before .before .before .before .before .before .before .before .before .before .before .loop .inv .2) (record { room = c .before .before .before .before .before .before .before .before .before .before .before .before .before .before .before .before .before .before .before .before .before .before .before .before .before .before .before .before .before .before .has-room .ensures .yes (c .before .before .before .before .before .before .before .before .before .before .before .before .before .before .before .before .before .before .before .before .before .before .before .before .before .before .before .before .before .if1 .taken) }) t e) (t .idle e) (t .used e), t .fares .ready .size)
 
 loop-less : tie.Need-loop-less Inv-loop μ-loop
 loop-less c = c .before .before .before .before .before .before .before .before .before .before .before .before .before .before .before .before .before .before .before .turn .ensures .onward (not-false (c .before .before .before .before .before .before .before .before .before .before .before .before .before .before .before .before .before .before .before .turn .result .more) (c .if2 .left))
 
 loop-again : tie.Need-loop-again Inv-loop μ-loop
-loop-again c = (fares-on (c .before .before .before .before .before .before .before .before .before .before .before .before .before .before .before .before .before .before .before .before .before .before .before .before .before .before .before .before .before .before .before .loop .inv .0) (c .before .before .before .before .before .before .before .before .before .before .before .before .before .before .before .before .before .before .before .turn .ensures .fares), sized-on (c .before .before .before .before .before .before .before .before .before .before .before .before .before .before .before .before .before .before .before .before .before .before .before .before .before .before .before .before .before .before .before .loop .inv .1) (record { window = c .before .before .before .before .before .before .before .before .before .before .before .before .before .before .before .before .before .before .window .given; parts = c .before .before .before .before .before .before .before .before .before .before .before .before .before .before .before .before .parts .given; part-owns = c .before .before .before .before .before .before .before .before .before .before .before .before .before .before .part-owns .given; productions = c .before .before .before .before .before .before .before .before .before .before .before .before .held .given; owns = c .before .before .before .before .before .before .before .before .before .before .held-owns .given; sets-size = c .before .before .before .before .before .before .before .before .sets .given; before = c .before .before .before .before .before .before .before2 .given }))
+loop-again c = (fares-on (c .before .before .before .before .before .before .before .before .before .before .before .before .before .before .before .before .before .before .before .before .before .before .before .before .before .before .before .before .before .before .before .loop .inv .0) (c .before .before .before .before .before .before .before .before .before .before .before .before .before .before .before .before .before .before .before .turn .ensures .fares), sized-on (c .before .before .before .before .before .before .before .before .before .before .before .before .before .before .before .before .before .before .before .before .before .before .before .before .before .before .before .before .before .before .before .loop .inv .1) (record { window = c .before .before .before .before .before .before .before .before .before .before .before .before .before .before .before .before .before .before .window .given; parts = c .before .before .before .before .before .before .before .before .before .before .before .before .before .before .before .before .parts .given; part-owns = c .before .before .before .before .before .before .before .before .before .before .before .before .before .before .part-owns .given; productions = c .before .before .before .before .before .before .before .before .before .before .before .before .held .given; owns = c .before .before .before .before .before .before .before .before .before .before .held-owns .given; sets-size = c .before .before .before .before .before .before .before .before .sets .given; before = c .before .before .before .before .before .before .before2 .given }), since-on (c .before .before .before .before .before .before .before .before .before .before .before .before .before .before .before .before .before .before .before .before .before .before .before .before .before .before .before .before .before .before .before .loop .inv .2) (record { room = c .before .before .before .before .before .before .before .before .before .before .before .before .before .before .before .before .before .before .before .before .before .before .before .before .before .before .before .before .before .before .has-room .ensures .yes (c .before .before .before .before .before .before .before .before .before .before .before .before .before .before .before .before .before .before .before .before .before .before .before .before .before .before .before .before .before .if1 .taken) }) (c .before .before .before .before .before .before .before .before .before .before .before .before .before .before .before .before .before .before .before .turn .ensures) (not-false (c .before .before .before .before .before .before .before .before .before .before .before .before .before .before .before .before .before .before .before .turn .result .more) (c .if2 .left)))
 
 same-length-9 : tie.Need-same-length-9 Inv-loop μ-loop
 same-length-9 c = c .before .before .loop .inv .1 .window
@@ -86,7 +88,7 @@ same-length-16 : tie.Need-same-length-16 Inv-loop μ-loop
 same-length-16 c = fares-out (c .before .before .loop .inv .0)
 
 returns-2 : tie.Need-returns-2 Inv-loop μ-loop
-returns-2 c = (fed-full (c .before .before .loop .inv .0) (tested-not (c .before .has-room .ensures) (c .if1 .left)), c .before .before .loop .inv .0 .ready .size)
+returns-2 c = (fed-full (c .before .before .loop .inv .0) (c .before .before .loop .inv .2 .size) (since-full (c .before .before .loop .inv .2) (tested-not (c .before .has-room .ensures) (c .if1 .left))) (tested-not (c .before .has-room .ensures) (c .if1 .left)), c .before .before .loop .inv .0 .ready .size)
 
 pub feed-sound-spec : {M : Type 1} → statement M
 feed-sound-spec =

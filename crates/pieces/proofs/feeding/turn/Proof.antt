@@ -1,5 +1,6 @@
 -- Rounds, nothing behind the end, or a line. Assumes nothing.
-use Rattle.pieces.proofs.Faring.{not-working, sound-here, rounds-told, over}
+use Rattle.pieces.proofs.Faring.{not-working, not-silent, sound-here, rounds-told, over}
+use Rattle.desk.proofs.Deciding.{tested-not}
 use Rattle.engine.specs.Lent.{lent}
 use native.Mathlib.Omega.{arith}
 use mathlib.Core.Path.{refl}
@@ -29,7 +30,7 @@ returns-2 c =
     over (a .table .now) (a .window .now) (a .parts .now) (a .part-owns .now) (lent (a .held .now) (a .held-owns .now) (a .sets .now) (a .before .now)) (a .state) (a .piece .now) (a .from) (a .out .now) (a .printed) (s .pre .0) (s .pre .1) (c .before .is-stopped .ensures .yes (c .if1 .taken))
 
 listen-requires : tie.Need-listen-requires
-listen-requires c κs = let s = c .before .before .before .before .before .before .before .before .before .before .before .before .before .before .before .before .before .before .before .before .before in (s .pre .0, s .pre .1, not-working (s .args .state .mode) (c .before .before .before .before .before .before .before .before .before .before .before .match .keys2))
+listen-requires c κs = let s = c .before .before .before .before .before .before .before .before .before .before .before .before .before .before .before .before .before .before .before .before .before in (s .pre .0, s .pre .1, not-silent (s .args .state .mode) (not-working (s .args .state .mode) (c .before .before .before .before .before .before .before .before .before .before .before .match .keys2)) (tested-not (c .before .before .before .before .before .before .before .before .before .before .is-stopped .ensures) (c .before .before .before .before .before .before .before .before .before .if1 .left)))
 
 pub turn-spec : {M : Type 1} → statement M
 turn-spec =
