@@ -3,3 +3,4 @@ pub mod Deciding
 pub mod Meaning
 pub mod Refusing
 pub mod Walking
+pub mod Unique

@@ -3,3 +3,4 @@ pub mod Ending
 pub mod Gathering
 pub mod Refusals
 pub mod Refused
+pub mod Unique
