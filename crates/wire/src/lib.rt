@@ -89,14 +89,13 @@ fn wire_sets<'a>(
     }
 }
 
-// Wires what node `q`'s production defines: its left symbol's synthesized sets, then its children's inherited ones. The node at a position tells the symbol.
-fn wire_node<'a>(
+// Wires what node `q`'s production defines at its left symbol: the synthesized sets of the node.
+fn wire_left<'a>(
     table: &'a [u64; 2657],
     productions: &'a [u8],
     beyond: &'a [u64; 9],
     named: &'a [u16; 1032],
     q: usize,
-    children: usize,
     a: &mut [u16],
     b: &mut [u16],
     left: &mut [u16],
@@ -104,18 +103,16 @@ fn wire_node<'a>(
 )
     requires { ⌜ Held (now table) (now productions) ⌝ }
     requires { ⌜ q < length (now productions) ⌝ }
-    requires { ⌜ children ≡ childCount (now table) (getD (now productions) q 0) ⌝ }
     requires { ⌜ Beyond (now beyond) ⌝ }
     requires { ⌜ Named (now table) (now productions) q (now named) ⌝ }
     requires { ⌜ Room (8 * length (now productions)) (now a) (now b) (now left) (now rule) ⌝ }
     requires { ⌜ Partly (now table) (now productions) (20 * q) (now a) (now b) (now left) (now rule) ⌝ }
-    ensures { λ _. ⌜ Partly (now (table .entry)) (now (productions .entry)) (20 * (q + 1)) (now (a .exit)) (now (b .exit)) (now (left .exit)) (now (rule .exit)) ⌝ }
+    ensures { λ _. ⌜ Partly (now (table .entry)) (now (productions .entry)) (20 * q + 4) (now (a .exit)) (now (b .exit)) (now (left .exit)) (now (rule .exit)) ⌝ }
     ensures { λ _. ⌜ Stay (8 * length (now (productions .entry))) (now (a .entry)) (now (b .entry)) (now (left .entry)) (now (rule .entry)) (now (a .exit)) (now (b .exit)) (now (left .exit)) (now (rule .exit)) ⌝ }
 {
     let p = wide(productions[q]);
-    let last = 20 * p + 4 * children;
-    let mut number = 20 * p;
-    let mut heads = 40 * p + 97;
+    let number = 20 * p;
+    let heads = 40 * p + 97;
     let count = synthesized_of(table, left_of(table, p)) % 256;
     wire_sets(
         table,
@@ -133,6 +130,35 @@ fn wire_node<'a>(
         left,
         rule,
     );
+}
+
+// Wires what it defines at its children: their inherited sets, as many as the symbol of the node there has.
+fn wire_children<'a>(
+    table: &'a [u64; 2657],
+    productions: &'a [u8],
+    beyond: &'a [u64; 9],
+    named: &'a [u16; 1032],
+    q: usize,
+    children: usize,
+    a: &mut [u16],
+    b: &mut [u16],
+    left: &mut [u16],
+    rule: &mut [u16],
+)
+    requires { ⌜ Held (now table) (now productions) ⌝ }
+    requires { ⌜ q < length (now productions) ⌝ }
+    requires { ⌜ children ≡ childCount (now table) (getD (now productions) q 0) ⌝ }
+    requires { ⌜ Beyond (now beyond) ⌝ }
+    requires { ⌜ Named (now table) (now productions) q (now named) ⌝ }
+    requires { ⌜ Room (8 * length (now productions)) (now a) (now b) (now left) (now rule) ⌝ }
+    requires { ⌜ Partly (now table) (now productions) (20 * q + 4) (now a) (now b) (now left) (now rule) ⌝ }
+    ensures { λ _. ⌜ Partly (now (table .entry)) (now (productions .entry)) (20 * (q + 1)) (now (a .exit)) (now (b .exit)) (now (left .exit)) (now (rule .exit)) ⌝ }
+    ensures { λ _. ⌜ Stay (8 * length (now (productions .entry))) (now (a .entry)) (now (b .entry)) (now (left .entry)) (now (rule .entry)) (now (a .exit)) (now (b .exit)) (now (left .exit)) (now (rule .exit)) ⌝ }
+{
+    let p = wide(productions[q]);
+    let last = 20 * p + 4 * children;
+    let mut number = 20 * p;
+    let mut heads = 40 * p + 97;
     let mut at = 1;
     while number < last {
         number += 4;
@@ -269,7 +295,8 @@ pub fn wire_tree<'a>(
     let mut q = 0;
     while q < n {
         let children = name_children(table, productions, ends, q, &mut named);
-        wire_node(
+        wire_left(table, productions, &beyond, &named, q, a, b, left, rule);
+        wire_children(
             table,
             productions,
             &beyond,

@@ -32,10 +32,17 @@ marked c = c .before .before .before .before .before .before .before .before
 abbrev top : tie.In-loop Inv-loop μ-loop → tie.Start Inv-loop μ-loop
 top i = lent (marked (i .before .before) .before)
 
-abbrev children : tie.After-wire-node-arg4 Inv-loop μ-loop → tie.After-name-children Inv-loop μ-loop
+-- in a turn: the children are named, position 0 is wired, and then the children's
+abbrev children : tie.After-wire-left-arg4 Inv-loop μ-loop → tie.After-name-children Inv-loop μ-loop
 children c = c .before .before .before .before .before .before
 
-abbrev wired : tie.After-slice-known12 Inv-loop μ-loop → tie.After-wire-node Inv-loop μ-loop
+abbrev begun : tie.After-slice-known12 Inv-loop μ-loop → tie.After-wire-left Inv-loop μ-loop
+begun c = c .before .before .before .before .before .before .before .before
+
+abbrev lefts : tie.After-wire-children-arg4 Inv-loop μ-loop → tie.After-wire-left Inv-loop μ-loop
+lefts c = begun (c .before .before .before .before .before .before)
+
+abbrev wired : tie.After-slice-known16 Inv-loop μ-loop → tie.After-wire-children Inv-loop μ-loop
 wired c = c .before .before .before .before .before .before .before .before
 
 holds : tie.Need-loop-holds Inv-loop μ-loop
@@ -44,30 +51,43 @@ holds c =
     let a = lent (m .before) .args in
     (omega arith, rooted (m .before) .name-root .ensures, blank-partly (a .table .now) (a .productions .now) _ _ _ _ (m .blank .ensures .0), stay-refl _ _ _ _ _)
 
-node : tie.Need-wire-node-requires Inv-loop μ-loop
-node c κs =
+first : tie.Need-wire-left-requires Inv-loop μ-loop
+first c κs =
     let d = children c in
     let i = d .before .before in
     let s = top i in
     let k = i .before .loop in
-    (s .pre .0, (i .loop-test .taken, (d .name-children .ensures .1, (beyond-is, (d .name-children .ensures .0, (stay-room (stay-trans (marked (i .before .before) .blank .ensures .1) (k .inv .3)) (s .pre .1 .1), k .inv .2))))))
+    (s .pre .0, (i .loop-test .taken, (beyond-is, (d .name-children .ensures .0, (stay-room (stay-trans (marked (i .before .before) .blank .ensures .1) (k .inv .3)) (s .pre .1 .1), k .inv .2)))))
+
+others : tie.Need-wire-children-requires Inv-loop μ-loop
+others c κs =
+    let w = lefts c in
+    let d = children (w .before) in
+    let i = d .before .before in
+    let s = top i in
+    let e = w .wire-left .ensures in
+    (s .pre .0, (i .loop-test .taken, (d .name-children .ensures .1, (beyond-is, (d .name-children .ensures .0, (stay-room (stay-trans (marked (i .before .before) .blank .ensures .1) (stay-trans (i .before .loop .inv .3) (e .1))) (s .pre .1 .1), e .0))))))
 
 -- the node that the next follows
-abbrev done : tie.After-named4 Inv-loop μ-loop → tie.After-wire-node Inv-loop μ-loop
+abbrev done : tie.After-named5 Inv-loop μ-loop → tie.After-wire-children Inv-loop μ-loop
 done c = wired (c .before)
+
+abbrev before : tie.After-named5 Inv-loop μ-loop → tie.After-name-children Inv-loop μ-loop
+before c = children (lefts (done c .before) .before)
 
 next : tie.Need-name-next-requires Inv-loop μ-loop
 next c κs =
-    let d = children (done c .before) in
+    let d = before c in
     let i = d .before .before in
     (omega (arith, i .loop-test .taken, top i .pre .0 .few), d .name-children .ensures .0 .own)
 
 again : tie.Need-loop-again Inv-loop μ-loop
 again c =
     let w = done (c .before) in
-    let i = children (w .before) .before .before in
-    let e = w .wire-node .ensures in
-    (omega (arith, i .loop-test .taken), c .name-next .ensures, e .0, stay-trans (i .before .loop .inv .3) (e .1))
+    let i = before (c .before) .before .before in
+    let f = lefts (w .before) .wire-left .ensures in
+    let e = w .wire-children .ensures in
+    (omega (arith, i .loop-test .taken), c .name-next .ensures, e .0, stay-trans (i .before .loop .inv .3) (stay-trans (f .1) (e .1)))
 
 -- from the start to the end
 stays : (c : tie.After-loop Inv-loop μ-loop) →
@@ -95,10 +115,11 @@ wire-tree-spec =
     (λ c κs. let s = lent c in (omega (arith, s .pre .0 .few), s .pre .1 .1))
     holds
     (λ c κs. let i = c .before in (top i .pre .0, (top i .pre .1 .0, (i .loop-test .taken, i .before .loop .inv .1))))
-    node
+    first
+    others
     next
-    (λ c. let i = children (done (c .before) .before) .before .before in omega (arith, i .loop-test .taken, top i .pre .0 .few))
-    (λ c. omega (arith, children (done (c .before) .before) .before .before .loop-test .taken))
+    (λ c. let i = before (c .before) .before .before in omega (arith, i .loop-test .taken, top i .pre .0 .few))
+    (λ c. omega (arith, before (c .before) .before .before .loop-test .taken))
     again
     (λ c. stays c .firsts .long)
     (λ c. stays c .seconds .long)

@@ -1,4 +1,4 @@
--- Position by position: what the node defines at the earlier ones is wired. Assumes nothing.
+-- Child by child: what the node defines at its left symbol and at the earlier children is wired. Assumes nothing.
 use Prim.Native.Nat.{ℕ, zero, suc, _+_, _-_, _*_, _/_, _%_, _≤_, _<_, zero-le}
 use mathlib.Core.Path.{_≡_, ap, _∙_}
 use mathlib.Core.List.{List}
@@ -12,37 +12,30 @@ use Rattle.wire.specs.Turns.{Sets, Partly, Stay, firstIndex}
 use Rattle.wire.proofs.Places.{number-in}
 use Rattle.wire.proofs.Rooms.{stay-refl, stay-trans, stay-room}
 use Rattle.wire.proofs.Turning.{few-children, shaped, spot-below, symbol-small, child-sets, skip-rest}
-use Rattle.wire.proofs.wire_node.Statement.{statement}
-use Rattle.wire.proofs.wire_node.Tie as tie
+use Rattle.wire.proofs.wire_children.Statement.{statement}
+use Rattle.wire.proofs.wire_children.Tie as tie
 
 abbrev Inv-loop : tie.InvT-loop
-Inv-loop table productions beyond named q children a₀ b₀ left₀ rule₀ p last number₀ heads₀ count at₀ a b left rule number heads at =
+Inv-loop table productions beyond named q children a₀ b₀ left₀ rule₀ p last number₀ heads₀ at₀ a b left rule number heads at =
     ((1 ≤ at) × (number + 4 ≡ 20 * p + 4 * at) × (heads ≡ 97 + 2 * number) × (number ≤ last))
     × Partly table productions (20 * q + 4 * at) a b left rule × Stay (8 * length productions) a₀ b₀ left₀ rule₀ a b left rule
 
 abbrev μ-loop : tie.MeasureT-loop
-μ-loop table productions beyond named q children a₀ b₀ left₀ rule₀ p last number₀ heads₀ count at₀ a b left rule number heads at = last - number
+μ-loop table productions beyond named q children a₀ b₀ left₀ rule₀ p last number₀ heads₀ at₀ a b left rule number heads at = last - number
 
 abbrev st : tie.After-wide Inv-loop μ-loop → tie.Start Inv-loop μ-loop
 st w = w .before .before .before .before .before .before .before
 
--- position 0 is wired before the loop, each other in it
-abbrev summed : tie.After-wire-sets-arg4 Inv-loop μ-loop → tie.After-synthesized-of Inv-loop μ-loop
-summed c = c .before .before .before .before
-
-abbrev zeroth : tie.After-slice-known8 Inv-loop μ-loop → tie.After-wire-sets Inv-loop μ-loop
-zeroth c = c .before .before .before .before .before .before .before .before
-
 abbrev nth : tie.At-loop Inv-loop μ-loop → tie.After-wide Inv-loop μ-loop
-nth l = summed (zeroth (l .before) .before) .before .before
+nth l = l .before
 
 abbrev inside : tie.After-wide16 Inv-loop μ-loop → tie.In-loop Inv-loop μ-loop
 inside x = x .before .before
 
-abbrev looked : tie.After-wire-sets-arg8 Inv-loop μ-loop → tie.After-inherited-of Inv-loop μ-loop
+abbrev looked : tie.After-wire-sets-arg4 Inv-loop μ-loop → tie.After-inherited-of Inv-loop μ-loop
 looked c = c .before .before .before .before
 
-abbrev wired : tie.After-slice-known12 Inv-loop μ-loop → tie.After-wire-sets2 Inv-loop μ-loop
+abbrev wired : tie.After-slice-known8 Inv-loop μ-loop → tie.After-wire-sets Inv-loop μ-loop
 wired c = c .before .before .before .before .before .before .before .before
 
 module _ (s : tie.Start Inv-loop μ-loop) where
@@ -68,49 +61,6 @@ module _ (n : tie.After-wide Inv-loop μ-loop) where
 
   few : (n .wide .result < 64) × (s .args .children ≤ 4)
   few = (omega (arith, production, number-at s (s .args .q) (s .pre .1 .0)), omega (arith, counted, few-children (t s) (ns s) (s .pre .0) (s .args .q) (s .pre .1 .0)))
-
--- ---- position 0
-
-synthesized-small : (g : tie.After-left-of Inv-loop μ-loop) → g .left-of .result < 32
-synthesized-small g =
-    let s = st (g .before) in
-    rw (g .left-of .ensures, production (g .before)) (symbol-small (t s) (ns s) (s .pre .0) (s .args .q) (s .pre .1 .0) 0 zero-le)
-
-every-first : (c : tie.After-synthesized-of Inv-loop μ-loop) →
-    let s = st (c .before .before) in c .synthesized-of .result % 256 ≡ defined (t s) (getD (ns s) (s .args .q) 0) 0
-every-first c =
-    let n = c .before .before in
-    let s = st n in
-    let e : c .synthesized-of .result ≡ synthesized (t s) (leftOf (t s) (getD (ns s) (s .args .q) 0)) = c .synthesized-of .ensures ∙ ap (synthesized (t s)) (c .before .left-of .ensures ∙ ap (leftOf (t s)) (production n)) in
-    let f : defined (t s) (getD (ns s) (s .args .q) 0) 0 ≤ 4 = shaped (t s) (ns s) (s .pre .0) (s .args .q) (s .pre .1 .0) .few 0 zero-le in
-    let g : c .synthesized-of .result ≤ 4 = rw e f in
-    let h : c .synthesized-of .result % 256 ≡ c .synthesized-of .result = omega (arith, g) in
-    h ∙ e
-
-first : tie.Need-wire-sets-requires Inv-loop μ-loop
-first c κs =
-    let g = summed c in
-    let n = g .before .before in
-    let s = st n in
-    let z : 20 * s .args .q + 4 * 0 ≡ 20 * s .args .q = omega arith in
-    let f : 8 * s .args .q ≡ 8 * s .args .q + 0 = omega arith in (
-      s .pre .0,
-      (
-        s .pre .1 .0,
-        (
-          record {
-            within = zero-le;
-            rules = omega (arith, production n);
-            words = omega arith;
-            slots = f;
-            every = every-first g;
-          },
-          (s .pre .1 .1 .1 .0, (s .pre .1 .1 .1 .1 .0, (s .pre .1 .1 .1 .1 .1 .0, rw z (s .pre .1 .1 .1 .1 .1 .1)))),
-        ),
-      ),
-    )
-
--- ---- a child's position
 
 first-is : (at : ℕ) → 1 ≤ at → firstIndex at ≡ 4
 first-is zero h = absurd (omega arith)
@@ -152,14 +102,14 @@ module _ (x : tie.After-wide16 Inv-loop μ-loop) where
   node-in : x .wide16 .result / 8 < length (ns (o c))
   node-in = rw node (spot-below (t (o c)) (ns (o c)) (o c .pre .0) (o c .args .q) (o c .pre .1 .0) (at c) (within c))
 
-symbol-is : (g : tie.After-left-of2 Inv-loop μ-loop) → let i = c (g .before .before .before) in
-    g .left-of2 .result ≡ leftOf (t (o i)) (getD (ns (o i)) (spot (t (o i)) (ns (o i)) (o i .args .q) (at i)) 0)
+symbol-is : (g : tie.After-left-of Inv-loop μ-loop) → let i = c (g .before .before .before) in
+    g .left-of .result ≡ leftOf (t (o i)) (getD (ns (o i)) (spot (t (o i)) (ns (o i)) (o i .args .q) (at i)) 0)
 symbol-is g =
     let x = g .before .before .before in
     let i = c x in
-    g .left-of2 .ensures ∙ ap (leftOf (t (o i))) (g .before .wide2 .ensures .0 ∙ ap (λ m. getD (ns (o i)) m 0) (node x))
+    g .left-of .ensures ∙ ap (leftOf (t (o i))) (g .before .wide2 .ensures .0 ∙ ap (λ m. getD (ns (o i)) m 0) (node x))
 
-other : tie.Need-wire-sets-requires-2 Inv-loop μ-loop
+other : tie.Need-wire-sets-requires Inv-loop μ-loop
 other k κs =
     let h = looked k in
     let x = h .before .before .before .before in
@@ -177,7 +127,7 @@ other k κs =
             slots = omega (arith, slot x, first-is (at i) (v .0 .0));
             every = h .inherited-of .ensures ∙ ap (inherited (t s)) (symbol-is (h .before)) ∙ child-sets (t s) (ns s) (s .pre .0) (s .args .q) (s .pre .1 .0) (at i) (v .0 .0) (within i);
           },
-          (s .pre .1 .1 .1 .0, (s .pre .1 .1 .1 .1 .0, (stay-room (stay-trans (zeroth (l i .before) .wire-sets .ensures .1) (v .2)) (s .pre .1 .1 .1 .1 .1 .0), v .1))),
+          (s .pre .1 .1 .1 .0, (s .pre .1 .1 .1 .1 .0, (stay-room (v .2) (s .pre .1 .1 .1 .1 .1 .0), v .1))),
         ),
       ),
     )
@@ -187,14 +137,14 @@ again k =
     let w = wired k in
     let i = c (looked (w .before) .before .before .before .before) in
     let v = l i .loop .inv in
-    let e = w .wire-sets2 .ensures in
+    let e = w .wire-sets .ensures in
     ((omega arith, omega (arith, v .0), omega (arith, v .0), omega (arith, v .0, i .loop-test .taken)), e .0, stay-trans (v .2) (e .1))
 
 stays : (k : tie.After-loop Inv-loop μ-loop) →
     let a = s (nth (k .before)) .args in
     let l = k .before .loop in
     Stay (8 * length (a .productions .now)) (a .a .now) (a .b .now) (a .left .now) (a .rule .now) (l .a) (l .b) (l .left) (l .rule)
-stays k = stay-trans (zeroth (k .before .before) .wire-sets .ensures .1) (k .before .loop .inv .2)
+stays k = k .before .loop .inv .2
 
 returns : tie.Need-returns Inv-loop μ-loop
 returns k =
@@ -203,8 +153,8 @@ returns k =
     let v = k .before .loop .inv in
     (skip-rest (t a) (ns a) (a .pre .0) (a .args .q) (a .pre .1 .0) (k .before .loop .at) _ _ _ _ (omega (arith, counted n, v .0, k .loop-test .left)) (v .1), stays k)
 
-pub wire-node-spec : {M : Type 1} → statement M
-wire-node-spec =
+pub wire-children-spec : {M : Type 1} → statement M
+wire-children-spec =
     tie.close
     (tie.spec
     Inv-loop
@@ -217,11 +167,7 @@ wire-node-spec =
     (λ c. omega (arith, few c))
     (λ c. omega (arith, few c))
     (λ c. omega (arith, few c))
-    (λ c κs. omega (arith, few c))
-    (λ c κs. synthesized-small c)
-    (λ c. let s = st (c .before .before) in omega (arith, s .pre .1 .0, s .pre .0 .few))
-    first
-    (λ k. ((omega arith, omega arith, omega arith, omega arith), zeroth k .wire-sets .ensures .0, stay-refl _ _ _ _ _))
+    (λ k. ((omega arith, omega arith, omega arith, omega arith), st k .pre .1 .1 .1 .1 .1 .1, stay-refl _ _ _ _ _))
     (λ c. omega (arith, c .loop-test .taken, few (n c)))
     (λ c. omega (arith, l c .loop .inv .0, positions c, few (n c)))
     (λ c. omega (arith, positions c))
