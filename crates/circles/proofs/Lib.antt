@@ -1,15 +1,7 @@
 pub mod Paths
-pub mod Stamps
-pub mod Front
-pub mod Chains
-pub mod Rolls
-pub mod Sweeps
-pub mod Rounds
 pub mod Lists
 pub mod Reach
 pub mod Least
-pub mod Holding
-pub mod Lowering
 pub mod Ranking
 pub mod Listing
 pub mod Sequence

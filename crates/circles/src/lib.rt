@@ -1,7 +1,1 @@
-// Circles: their labels, over two argument arrays and nothing else.
-mod labels;
-mod order;
-
-pub use labels::chain_readers;
-pub use labels::circle_labels;
-pub use labels::wide;
+// Circles and their ranks, as definitions, and what is true of them: maximal sets of instances that reach one another, the ready one with the smallest least instance first.

@@ -7,8 +7,8 @@ use mathlib.Core.List.{List}
 use mathlib.Core.Logic.{_⊎_, inl, inr, ⊎-elim, dite}
 use lib.ListN.{length, getD, set, length-set}
 use lib.Seq.{getD-set-same, getD-set-other}
-use Rattle.circles.specs.Search.{Next, placeOf, argOf, Arg}
-use Rattle.circles.specs.Labels.{Kin}
+use Rattle.labels.specs.Search.{Next, placeOf, argOf, Arg}
+use Rattle.labels.specs.Labels.{Kin}
 use Rattle.ranking.specs.Turns.{Settled, Free, Advanced, In, Bits, Put, Cursor, Sure, Cursors, Moved, SureAt}
 
 module _ (n : ℕ) (a b label taken after : List ℕ) (l x : ℕ) where

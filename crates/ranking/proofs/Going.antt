@@ -13,10 +13,10 @@ use borrow.Author.Tests.{eq-eqb, eqb-true}
 use Rattle.circles.specs.Graph.{Graph, _∈_}
 use Rattle.circles.specs.Ranked.{member, allOf, keep, upFrom, slots, firstOf, labelAt, labelsOf, circleOf, settled, ready, takeable, ranking, ranked}
 use Rattle.circles.specs.Arrays.{Given, graphOf, joined, endsFrom, over}
-use Rattle.circles.specs.Labels.{Kin}
+use Rattle.labels.specs.Labels.{Kin}
 use Rattle.ranking.specs.Turns.{Settled, Free, In, Pulled, Turn, membersFrom, Agrees, Listed}
 use Rattle.circles.proofs.Lists.{not-true-false, and-parts, and-of, or-parts, or-one, or-two, not-of, not-was, all-of, of-all, in-keep, of-keep, keep-same, in-slots, of-slots, first-is, first-none}
-use Rattle.circles.proofs.Holding.{getD-any, in-given, of-given}
+use Rattle.labels.proofs.Holding.{getD-any, in-given, of-given}
 use Rattle.circles.proofs.Least.{labels-long}
 use Rattle.circles.proofs.Ranking.{ranking-takes, ranking-ends, heldBy, held-le, held-none, held-more, joined-cons, joined-none, ranked-is}
 

@@ -12,8 +12,8 @@ use lib.Seq.{sets}
 use lib.Dec.{eqb}
 use borrow.Author.Tests.{eq-eqb, ne-eqb}
 use Rattle.circles.specs.Ranked.{keep, upFrom}
-use Rattle.circles.specs.Search.{Next, placeOf}
-use Rattle.circles.specs.Labels.{Kin}
+use Rattle.labels.specs.Search.{Next, placeOf}
+use Rattle.labels.specs.Labels.{Kin}
 use Rattle.ranking.specs.Turns.{membersFrom}
 use Rattle.circles.proofs.Lists.{keep-step, keep-here, keep-none, up-step, up-none}
 

@@ -7,8 +7,8 @@ use mathlib.Core.List.{List}
 use mathlib.Core.Logic.{_⊎_, inl, inr, ⊎-elim, dite}
 use lib.ListN.{length, getD, set, length-set, replicate, length-replicate, getD-replicate, List·getD-eq-default}
 use lib.Seq.{getD-set-same, getD-set-other}
-use Rattle.circles.specs.Search.{Arg, Marked, Roll}
-use Rattle.circles.specs.Labels.{Kin}
+use Rattle.labels.specs.Search.{Arg, Marked, Roll}
+use Rattle.labels.specs.Labels.{Kin}
 use Rattle.ranking.specs.Turns.{Settled, Free, Advanced, In, Put, Pulled, Cursor, Sure, Cursors, Moved, SureAt, Turn, Outset, digit}
 use Rattle.ranking.proofs.Words.{digit-zero}
 

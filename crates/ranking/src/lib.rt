@@ -6,8 +6,8 @@ ghost use Rattle.circles.specs.Arrays.{Given, graphOf, Laid};
 mod ranks;
 
 use crate::ranks::rank_labelled;
-use circles::chain_readers;
-use circles::circle_labels;
+use labels::chain_readers;
+use labels::circle_labels;
 
 // The circles of n slots, ranked: the label of each slot, the members circle by circle, where each circle ends, and how many there are.
 // a[x] is 65534 where x is not declared; an argument past the slots is none.

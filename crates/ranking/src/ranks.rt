@@ -6,10 +6,10 @@ ghost use lib.Seq.{sets};
 ghost use mathlib.Core.List.{[], _++_};
 ghost use Rattle.circles.specs.Ranked.{ranking, ranked};
 ghost use Rattle.circles.specs.Arrays.{Given, graphOf, over, Laid};
-ghost use Rattle.circles.specs.Search.{Arg, Chained, argOf, Marked, Roll};
-ghost use Rattle.circles.specs.Labels.{Kin};
+ghost use Rattle.labels.specs.Search.{Arg, Chained, argOf, Marked, Roll};
+ghost use Rattle.labels.specs.Labels.{Kin};
 ghost use Rattle.ranking.specs.Turns.{Says, Settled, Free, Advanced, In, Bits, Put, Pulled, Cursors, Moved, SureAt, Turn, Outset, membersFrom, Agrees, Listed};
-use circles::wide;
+use labels::wide;
 
 // Whether y, an argument of the circle l, is none, or in l, or in a taken circle.
 fn settled(n: usize, label: &[u16], taken: &[u16; 4096], l: u16, y: u16) -> bool

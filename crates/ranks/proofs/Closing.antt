@@ -6,7 +6,7 @@ use mathlib.Core.Logic.{_⊎_, inl, inr, ⊎-elim}
 use lib.ListN.{length, getD}
 use Rattle.circles.specs.Graph.{Closed}
 use Rattle.circles.specs.Arrays.{graphOf}
-use Rattle.circles.proofs.Holding.{in-given, is-declared, was-declared, arg-reads, reads-arg}
+use Rattle.labels.proofs.Holding.{in-given, is-declared, was-declared, arg-reads, reads-arg}
 use Rattle.ranks.specs.Slots.{Stands, Sure}
 
 module _ (n : ℕ) (a b : List ℕ) (la : n ≤ length a) (lb : n ≤ length b) where

@@ -2,7 +2,7 @@
 use Prim.Native.Nat.{ℕ}
 use native.Mathlib.Omega.{arith}
 use lib.ListN.{length-replicate}
-use Rattle.circles.proofs.Chains.{blank-new}
+use Rattle.labels.proofs.Chains.{blank-new}
 use Rattle.ranking.proofs.Going.{agrees-of}
 use borrow.Author.Needs.{needs}
 use Rattle.ranking.proofs.rank_circles.Statement.{statement}

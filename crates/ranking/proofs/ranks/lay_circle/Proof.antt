@@ -1,7 +1,7 @@
 -- `lay_circle` meets its contract: what is laid and what is left are the circle. Assumes nothing.
 use Rattle.ranking.proofs.Laying.{Laying, laying-start, laying-room, laying-more, laying-end}
 use Rattle.ranking.specs.Turns.{membersFrom}
-use Rattle.circles.specs.Search.{Next, placeOf}
+use Rattle.labels.specs.Search.{Next, placeOf}
 use lib.ListN.{length, getD, set}
 use mathlib.Core.Path.{_≡_, refl, sym, ap, subst, subst₂, _∙_}
 use Prim.Native.Nat.{ℕ, _+_, _-_, _≤_, _<_}

@@ -1,8 +1,8 @@
 -- `retire` meets its contract: what stands before e on the chain is sure. Assumes nothing.
 use Rattle.ranking.proofs.Cursors.{moved-none, moved-join, Passing, passing-start, passing-more}
-use Rattle.circles.proofs.Chains.{at-readers}
+use Rattle.labels.proofs.Chains.{at-readers}
 use Rattle.ranking.specs.Turns.{Moved, SureAt}
-use Rattle.circles.specs.Search.{Next, argOf, Arg}
+use Rattle.labels.specs.Search.{Next, argOf, Arg}
 use lib.ListN.{length, getD, set}
 use mathlib.Core.Path.{_≡_, refl, sym, ap, subst, subst₂, _∙_}
 use Prim.Native.Nat.{ℕ, _+_, _*_, _/_, _-_, _≤_, _<_}

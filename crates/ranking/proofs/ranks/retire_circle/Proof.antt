@@ -1,7 +1,7 @@
 -- `retire_circle` meets its contract: what reads the members passed is sure. Assumes nothing.
 use Rattle.ranking.proofs.Cursors.{moved-none, moved-join, Walked, walked-start, walked-more}
 use Rattle.ranking.specs.Turns.{Moved}
-use Rattle.circles.specs.Search.{Next, placeOf}
+use Rattle.labels.specs.Search.{Next, placeOf}
 use lib.ListN.{length, getD, set}
 use mathlib.Core.Path.{_≡_, refl, sym, ap, subst, subst₂, _∙_}
 use Prim.Native.Nat.{ℕ, _+_, _*_, _-_, _≤_, _<_}

@@ -1,0 +1,81 @@
+-- `label_circles` meets its contract: a seed a turn, in whatever order; the first j of the list have their label. Assumes nothing.
+use Prim.Native.Nat.{ℕ, _+_, _-_, _<_, _≤_}
+use native.Mathlib.Omega.{arith}
+use native.Mathlib.Decide.{decLt}
+use mathlib.Core.Path.{_≡_, subst}
+use mathlib.Core.List.{List}
+use mathlib.Core.Logic.{⊎-elim}
+use lib.ListN.{length, getD}
+use Rattle.labels.specs.Search.{Stated, Marked, Roll}
+use Rattle.labels.specs.Labels.{Reps, Stale, Seeded, Took}
+use Rattle.labels.proofs.Rounds.{reps-none, stale-none}
+use Rattle.labels.proofs.search.label_circles.Statement.{statement}
+use Rattle.labels.proofs.search.label_circles.Tie as tie
+
+-- the first j of the list have their label
+abbrev Labelled : ℕ → List ℕ → List ℕ → ℕ → Type 0
+Labelled n slots rep j = (k : ℕ) → k < j → Marked n rep (getD slots k 0)
+
+-- once the seed is tried, those up to where the search stands have theirs
+tried : (n d : ℕ) (a b slots rep rep′ m q : List ℕ) (i j x i′ j′ : ℕ) → Roll (Stated a) n slots d → Reps n a b rep → Labelled n slots rep j → Seeded n d slots rep i j x i′ j′ → Took n a b x rep rep′ m q → Labelled n slots rep′ j′
+tried n d a b slots rep rep′ m q i j x i′ j′ L R f s t k h =
+    let kd : k < d = omega (arith, s .within) in
+    elim (decLt k j) [
+      | yes l ↦ t .kept (getD slots k 0) (f k l)
+      | no l ↦ ⊎-elim
+          (λ e. subst (λ (v : ℕ). v < n → Stated a v → Marked n rep′ v) (s .skip k (omega arith) h e) (t .here) (L .within k kd) (L .is k kd))
+          (λ p. t .kept (getD slots k 0) (p .0)) (R .own (getD slots k 0) (L .within k kd))
+    ]
+
+abbrev Inv-loop : tie.InvT-loop
+Inv-loop n a b first next count slots order from rep₀ seen₀ queue₀ i₀ j₀ rep seen queue i j = (Reps n a b rep × Stale n seen rep × (length queue ≡ 4096)) × (Labelled n slots rep j × (j ≤ count))
+
+abbrev μ-loop : tie.MeasureT-loop
+μ-loop n a b first next count slots order from rep₀ seen₀ queue₀ i₀ j₀ rep seen queue i j = (n - i) + (count - j)
+
+loop-holds : tie.Need-loop-holds Inv-loop μ-loop
+loop-holds c =
+    let s = c .args in
+    let p = c .pre in
+    ((reps-none (s .n) (p .0 .0) (s .a .now) (s .b .now) (s .rep .now) (p .1 .0), stale-none (s .n) (p .0 .0) (s .a .now) (s .b .now) (s .seen .now) (s .rep .now) (p .1 .1), p .1 .2), (λ y h. absurd (omega arith), omega arith))
+
+next-seed-requires : tie.Need-next-seed-requires Inv-loop μ-loop
+next-seed-requires c κs = let s = c .before .before .before in (s .pre .0 .0, omega (arith, s .pre .0 .0, s .pre .1 .3 .few), c .before .loop-test .taken, λ k h. omega (arith, s .pre .0 .0, s .pre .1 .3 .within k h))
+
+try-circle-requires : tie.Need-try-circle-requires Inv-loop μ-loop
+try-circle-requires c κs = (c .before .before .before .before .before .before .before .pre .0, c .before .before .before .before .before .before .loop .inv .0)
+
+loop-less : tie.Need-loop-less Inv-loop μ-loop
+loop-less c = c .before .before .before .before .next-seed .ensures .onward
+
+loop-again : tie.Need-loop-again Inv-loop μ-loop
+loop-again c =
+    let z = c .before .before .before .before .before .before .before .before in
+    let g = z .args in
+    let l = c .before .before .before .before .before .before .before .loop in
+    let s = c .before .before .before .before .next-seed in
+    let t = c .try-circle in
+    let all = tried (g .n) (g .count) (g .a .now) (g .b .now) (g .slots .now) (l .rep) (t .last .1 .1 .1 .1 .1 .1 .0) (t .last .1 .1 .1 .1 .1 .1 .1 .0) (t .last .1 .1 .1 .1 .1 .1 .1 .1 .0) (l .i) (l .j) (s .result .x) (s .result .i) (s .result .j) (z .pre .1 .3) (l .inv .0 .0) (l .inv .1 .0) (s .ensures) (t .ensures) in
+    ((t .ensures .reps, t .ensures .stale, t .ensures .room), (all, s .ensures .within))
+
+returns : tie.Need-returns Inv-loop μ-loop
+returns c =
+    let z = c .before .before in
+    let l = c .before .loop in (
+      l .inv .0 .0,
+      λ y h d. let w = z .pre .1 .3 .all y h d in subst (λ (u : ℕ). Marked (z .args .n) (l .rep) u) (w .2) (l .inv .1 .0 (w .0) (omega (arith, w .1, c .loop-test .left))),
+      l .inv .0 .2,
+    )
+
+pub label-circles-spec : {M : Type 1} → statement M
+label-circles-spec =
+    tie.close
+    (tie.spec
+    Inv-loop
+    μ-loop
+    loop-holds
+    next-seed-requires
+    try-circle-requires
+    loop-less
+    loop-again
+    returns)

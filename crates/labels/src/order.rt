@@ -1,0 +1,155 @@
+ghost use mathlib.Core.Path.{_≡_};
+ghost use Prim.Native.Nat.{ℕ, _+_, _<_, _≤_};
+ghost use lib.ListN.{length};
+ghost use Rattle.labels.specs.Search.{Stated, Roll};
+use crate::search::wide;
+
+// The argument of v in x, where the walk is at the stage that looks at it and comes to it for the first time; else 65535. stage: 4 before the walk comes to a slot, then 1, 2 and 3 as its arguments are looked at.
+fn come_to(n: usize, x: &[u16; 4096], v: usize, at: u16, stage: &mut [u16; 4096]) -> u16
+    requires { ⌜ (v < n) × (n ≤ 4096) × (at < 3) ⌝ }
+{
+    if stage[v] != at {
+        return 65535;
+    }
+    stage[v] = at + 1;
+    let y = x[v];
+    let i = wide(y);
+    if n <= i {
+        return 65535;
+    }
+    if stage[i] != 4 {
+        return 65535;
+    }
+    stage[i] = 1;
+    y
+}
+
+// The next argument of v that the walk comes to, or 65535.
+fn unseen(n: usize, a: &[u16; 4096], b: &[u16; 4096], v: usize, stage: &mut [u16; 4096]) -> u16
+    requires { ⌜ (v < n) × (n ≤ 4096) ⌝ }
+{
+    let y = come_to(n, a, v, 1, stage);
+    if y != 65535 {
+        return y;
+    }
+    come_to(n, b, v, 2, stage)
+}
+
+// A depth-first walk from the root along what is read: each slot goes into the order, from the end, as the walk leaves it. Where the order now begins.
+fn walk(
+    n: usize,
+    a: &[u16; 4096],
+    b: &[u16; 4096],
+    root: usize,
+    from: usize,
+    order: &mut [u16; 4096],
+    stack: &mut [u16; 4096],
+    stage: &mut [u16; 4096],
+) -> usize
+    requires { ⌜ (root < n) × (n ≤ 4096) × (from ≤ n) × (length (now stack) ≡ 4096) × (length (now order) ≡ 4096) ⌝ }
+    ensures { λ r. ⌜ (r ≤ n) × (length (now (stack .exit)) ≡ 4096) × (length (now (order .exit)) ≡ 4096) ⌝ }
+{
+    stage[root] = 1;
+    stack[0] = root as u16;
+    let mut top: usize = 1;
+    let mut at = from;
+    let mut turns = 2 * n;
+    while 0 < turns {
+        turns -= 1;
+        if top == 0 {
+            return at;
+        }
+        let v = wide(stack[top - 1]);
+        if n <= v {
+            return at;
+        }
+        let w = unseen(n, a, b, v, stage);
+        if wide(w) < n {
+            if n <= top {
+                return at;
+            }
+            stack[top] = w;
+            top += 1;
+        } else {
+            if at == 0 {
+                return 0;
+            }
+            at -= 1;
+            order[at] = v as u16;
+            top -= 1;
+        }
+    }
+    at
+}
+
+// Where the order begins, and how many slots are listed.
+pub struct Walked {
+    pub from: usize,
+    pub count: usize,
+}
+
+// A declared root is listed, and walked from where no walk has come to it.
+fn walk_new(
+    n: usize,
+    a: &[u16; 4096],
+    b: &[u16; 4096],
+    root: usize,
+    from: usize,
+    count: usize,
+    slots: &mut [u16; 4096],
+    order: &mut [u16; 4096],
+    stack: &mut [u16; 4096],
+    stage: &mut [u16; 4096],
+) -> Walked
+    requires { ⌜ (root < n) × (n ≤ 4096) × (from ≤ n) × (length (now order) ≡ 4096) × (length (now stack) ≡ 4096) ⌝ }
+    requires { ⌜ (length (now slots) ≡ 4096) × Roll (Stated (now a)) root (now slots) count ⌝ }
+    ensures { λ r. ⌜ (r .from ≤ n) × (length (now (order .exit)) ≡ 4096) × (length (now (stack .exit)) ≡ 4096) ⌝ }
+    ensures { λ r. ⌜ (length (now (slots .exit)) ≡ 4096) × Roll (Stated (now (a .entry))) (root + 1) (now (slots .exit)) (r .count) ⌝ }
+{
+    if a[root] == 65534 {
+        return Walked {
+            from: from,
+            count: count,
+        };
+    }
+    slots[count] = root as u16;
+    if stage[root] != 4 {
+        return Walked {
+            from: from,
+            count: count + 1,
+        };
+    }
+    let at = walk(n, a, b, root, from, order, stack, stage);
+    Walked {
+        from: at,
+        count: count + 1,
+    }
+}
+
+// The list of the declared slots; and an order of them in which the labelling does little work, on which nothing rests: by falling time of leaving in a depth-first walk.
+pub fn leaving_order(
+    n: usize,
+    a: &[u16; 4096],
+    b: &[u16; 4096],
+    slots: &mut [u16; 4096],
+    order: &mut [u16; 4096],
+    stack: &mut [u16; 4096],
+    stage: &mut [u16; 4096],
+) -> Walked
+    requires { ⌜ (n ≤ 4096) × (length (now order) ≡ 4096) × (length (now stack) ≡ 4096) × (length (now slots) ≡ 4096) ⌝ }
+    ensures { λ r. ⌜ (length (now (order .exit)) ≡ 4096) × (length (now (stack .exit)) ≡ 4096) × Roll (Stated (now (a .entry))) n (now (slots .exit)) (r .count) ⌝ }
+{
+    let mut at = n;
+    let mut count: usize = 0;
+    let mut root: usize = 0;
+    while root < n {
+        let w = walk_new(n, a, b, root, at, count, slots, order, stack, stage);
+        at = w.from;
+        count = w.count;
+        root += 1;
+    }
+    Walked {
+        from: at,
+        count: count,
+    }
+}
