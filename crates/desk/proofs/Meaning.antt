@@ -13,7 +13,7 @@ use Rattle.lines.proofs.Values.{lt-or-ge}
 use Rattle.table.proofs.FirstLaws.{some-none, some-all}
 use Rattle.climb.proofs.Lists.{or-false-is}
 use Rattle.update.proofs.Within.{short-means}
-use Rattle.hearing.specs.Owed.{Begun}
+use Rattle.owing.specs.Owed.{Begun}
 use Rattle.desk.specs.Desk.{Desk, Wide}
 use Rattle.desk.specs.Refusals.{narrow, overrun}
 use Rattle.desk.specs.Refused.{NarrowMeans, OverrunMeans}

@@ -20,12 +20,12 @@ use Rattle.update.specs.Refused.{_and_, sound}
 use Rattle.update.proofs.Checks.{Check, if, table, tree, numbersOf, number, table-number, tree-number, nothing, listed, among}
 use Rattle.update.proofs.Refusing.{all-exactly}
 use Rattle.update.proofs.Within.{short-means, beyond-means}
-use Rattle.engine.specs.Order.{Holding}
-use Rattle.engine.proofs.Orders.{or-zero, going, step-none}
-use Rattle.hearing.specs.Owed.{Sound}
-use Rattle.hearing.specs.declared.Order.{Order}
-use Rattle.hearing.specs.declared.Mode.{Mode}
-use Rattle.hearing.specs.declared.Mode.the-variants.{Table, Command, Nodes, Working, Stopped}
+use Rattle.judging.specs.Order.{Holding}
+use Rattle.judging.proofs.Orders.{or-zero, going, step-none}
+use Rattle.owing.specs.Owed.{Sound}
+use Rattle.owing.specs.declared.Order.{Order}
+use Rattle.owing.specs.declared.Mode.{Mode}
+use Rattle.owing.specs.declared.Mode.the-variants.{Table, Command, Nodes, Working, Stopped}
 use Rattle.frames.specs.declared.Expected.{Expected}
 use Rattle.desk.specs.Desk.{Desk, Wide, tableOf}
 use Rattle.desk.specs.Refusals.{narrow, overrun, sofarRefusal, keptNumbers, modeRefusal, settledNumbers, stateRefusal}

@@ -8,8 +8,8 @@ use Rattle.update.specs.Records.{emptyRecord}
 use Rattle.update.specs.Memories.{Memory}
 use Rattle.update.specs.Within.{Roomy}
 use Rattle.frames.specs.declared.Expected.the-variants.{AtHeader}
-use Rattle.hearing.specs.Owed.{owed, Sound, Begun}
-use Rattle.hearing.specs.declared.Mode.the-variants.{Table}
+use Rattle.owing.specs.Owed.{owed, Sound, Begun}
+use Rattle.owing.specs.declared.Mode.the-variants.{Table}
 use Rattle.desk.specs.declared.State.{State}
 
 -- the table's words, the begun line's bytes, the nodes that have come with their own sets, and the engine's four buffers

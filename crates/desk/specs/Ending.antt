@@ -8,9 +8,9 @@ use lib.Seq.{sets}
 use Rattle.refusal.specs.declared.Refusal.the-variants as why
 use Rattle.frames.specs.declared.Written.{Written}
 use Rattle.frames.specs.declared.Written.the-variants.{Length, Refused as NotWritten}
-use Rattle.hearing.specs.Laws.{endText}
-use Rattle.hearing.specs.declared.Mode.{Mode}
-use Rattle.hearing.specs.declared.Mode.the-variants.{Table, Command, Nodes, Working, Stopped}
+use Rattle.owing.specs.Laws.{endText}
+use Rattle.owing.specs.declared.Mode.{Mode}
+use Rattle.owing.specs.declared.Mode.the-variants.{Table, Command, Nodes, Working, Stopped}
 use Rattle.desk.specs.declared.State.{State}
 
 abbrev pub lastText : State → List ℕ

@@ -4,7 +4,7 @@ use mathlib.Core.Bool.{Bool, true, false}
 use mathlib.Core.List.{List, _++_}
 use Prim.Native.Nat.{ℕ, _+_, _-_, _≤_, _<_}
 use lib.ListN.{length, take, drop}
-use Rattle.hearing.specs.Owed.{Begun, Whole}
+use Rattle.owing.specs.Owed.{Begun, Whole}
 
 -- n bytes of the line have come then, and the piece is taken up to `place`
 pub record Gathers (piece : List ℕ) (from : ℕ) (window : List ℕ) (begun n place : ℕ) (whole : Bool) (window′ : List ℕ) : Type 0 where

@@ -12,9 +12,9 @@ use Rattle.update.specs.Refusals.{firstRefusal, when, short, heldRefusal, stepR
 use Rattle.frames.specs.declared.Expected.{Expected}
 use Rattle.frames.specs.declared.Expected.the-variants.{AtHeader, AtSymbol, AtProduction, AtEquation, Ended}
 use Rattle.frames.specs.Walk.{entryOf, nextOf, isOn}
-use Rattle.engine.specs.Order.{groundNumbers}
-use Rattle.hearing.specs.declared.Mode.{Mode}
-use Rattle.hearing.specs.declared.Mode.the-variants.{Table, Command, Nodes, Working, Stopped}
+use Rattle.judging.specs.Order.{groundNumbers}
+use Rattle.owing.specs.declared.Mode.{Mode}
+use Rattle.owing.specs.declared.Mode.the-variants.{Table, Command, Nodes, Working, Stopped}
 use Rattle.desk.specs.declared.State.{State}
 use Rattle.desk.specs.Desk.{Desk, tableOf}
 

@@ -15,9 +15,9 @@ use Rattle.update.specs.Refused.{_and_, sound}
 use Rattle.frames.specs.declared.Expected.{Expected}
 use Rattle.frames.specs.declared.Expected.the-variants.{AtHeader, Ended}
 use Rattle.frames.specs.Walk.{entryOf, nextOf, isOn}
-use Rattle.hearing.specs.Owed.{Begun}
-use Rattle.hearing.specs.declared.Mode.{Mode}
-use Rattle.hearing.specs.declared.Mode.the-variants.{Table, Command, Nodes, Working, Stopped}
+use Rattle.owing.specs.Owed.{Begun}
+use Rattle.owing.specs.declared.Mode.{Mode}
+use Rattle.owing.specs.declared.Mode.the-variants.{Table, Command, Nodes, Working, Stopped}
 use Rattle.desk.specs.Desk.{Desk, Wide, Fits, tableOf}
 use Rattle.desk.specs.Refusals.{narrow, overrun, stateRefusal}
 

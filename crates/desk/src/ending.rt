@@ -2,10 +2,10 @@
 use crate::State;
 use frames::Written;
 use frames::put_refusal;
-use hearing::Mode;
+use owing::Mode;
 use refusal::Refusal;
 ghost use mathlib.Core.Path.{_≡_};
-ghost use Rattle.hearing.specs.declared.Mode.the-variants.{Stopped};
+ghost use Rattle.owing.specs.declared.Mode.the-variants.{Stopped};
 ghost use Rattle.desk.specs.Desk.{Tests};
 ghost use Rattle.desk.specs.Ending.{finished, finishedOut, inside, silent};
 

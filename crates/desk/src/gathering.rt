@@ -3,7 +3,7 @@ ghost use mathlib.Core.Path.{_≡_};
 ghost use Prim.Native.Nat.{_≤_};
 ghost use lib.ListN.{length, take};
 ghost use Rattle.frames.specs.Frames.{lineAfter};
-ghost use Rattle.hearing.specs.Owed.{Begun};
+ghost use Rattle.owing.specs.Owed.{Begun};
 ghost use Rattle.desk.specs.Gathering.{Gathers};
 
 // How many bytes of a line have come, how far the piece was taken, and whether 29 bytes or an LF decide the line.

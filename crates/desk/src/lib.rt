@@ -14,7 +14,7 @@ use frames::Expected;
 pub use gathering::Gathered;
 pub use gathering::gather;
 pub use gathering::line_after;
-use hearing::Mode;
+use owing::Mode;
 use update::Record;
 ghost use mathlib.Core.Path.{_≡_};
 ghost use Rattle.desk.specs.Desk.{firstState};

@@ -16,8 +16,8 @@ use Rattle.update.specs.declared.Record.{Record}
 use Rattle.update.specs.Memories.{Memory}
 use Rattle.update.specs.Refusals.{firstRefusal, when, dumpRefusal}
 use Rattle.update.specs.Calls.{refused, said}
-use Rattle.engine.specs.Order.{lookNumbers}
-use Rattle.engine.proofs.Orders.{past, stopped, Looked, look-none}
+use Rattle.judging.specs.Order.{lookNumbers}
+use Rattle.judging.proofs.Orders.{past, stopped, Looked, look-none}
 use Rattle.frames.specs.declared.Written.the-variants.{Length, Refused}
 use Rattle.dump.specs.Calls.{dumpedText, wrote, Wrote, unlessWritten, dumpCall}
 

@@ -19,8 +19,8 @@ use Rattle.update.specs.declared.Record.{Record}
 use Rattle.update.specs.Memories.{Memory, nodesOf, ownsOf}
 use Rattle.update.specs.Refusals.{heldRefusal}
 use Rattle.update.specs.Calls.{dumped}
-use Rattle.engine.specs.Order.{Grounded}
-use Rattle.engine.proofs.Orders.{tree-sound}
+use Rattle.judging.specs.Order.{Grounded}
+use Rattle.judging.proofs.Orders.{tree-sound}
 use Rattle.frames.specs.Out.{Held, setText, dumpText}
 use Rattle.dump.specs.Telling.{heldIn, toldFrom, slotText, Tellable}
 use Rattle.dump.specs.Calls.{dumpedText}

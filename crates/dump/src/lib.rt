@@ -10,7 +10,7 @@ ghost use mathlib.Core.Path.{_≡_};
 ghost use Prim.Native.Nat.{_+_, _*_, _<_, _≤_};
 ghost use lib.ListN.{length, take};
 ghost use lib.Seq.{sets as setsAt};
-ghost use Rattle.engine.specs.Lent.{lent};
+ghost use Rattle.judging.specs.Lent.{lent};
 ghost use Rattle.dump.specs.Telling.{toldFrom, slotText, Tellable};
 ghost use Rattle.dump.specs.Calls.{wrote, dumpCall};
 

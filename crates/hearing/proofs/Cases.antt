@@ -19,11 +19,11 @@ use Rattle.texts.specs.Read.{wordsAfter, takenAt}
 use Rattle.frames.proofs.Expected as X
 use Rattle.frames.proofs.Frame as F
 use Rattle.session.specs.Session.{dumpTold}
-use Rattle.hearing.specs.Hearing.{Heard, stopped, strange, waiting, called, ordered, commanded, modeOf, tabled, keptAt, noded, hearing}
-use Rattle.hearing.specs.declared.Order.{Order}
-use Rattle.hearing.specs.declared.Order.the-variants as order
-use Rattle.hearing.specs.declared.Mode.{Mode}
-use Rattle.hearing.specs.declared.Mode.the-variants.{Table, Command, Nodes, Working, Stopped}
+use Rattle.owing.specs.Hearing.{Heard, stopped, strange, waiting, called, ordered, commanded, modeOf, tabled, keptAt, noded, hearing}
+use Rattle.owing.specs.declared.Order.{Order}
+use Rattle.owing.specs.declared.Order.the-variants as order
+use Rattle.owing.specs.declared.Mode.{Mode}
+use Rattle.owing.specs.declared.Mode.the-variants.{Table, Command, Nodes, Working, Stopped}
 
 pub not-ended : (x : Expected) → OneOf (0 ∷ 1 ∷ 2 ∷ 3 ∷ []) (tagOf X.the-type x) → Table x ≡ modeOf x
 not-ended AtHeader k = refl

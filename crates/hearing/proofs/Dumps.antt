@@ -15,8 +15,8 @@ use Rattle.update.specs.declared.Record.{Record}
 use Rattle.update.specs.Records.{isOpen}
 use Rattle.update.specs.Memories.{Memory}
 use Rattle.update.specs.Refusals.{firstRefusal, when, heldRefusal, lookRefusals}
-use Rattle.engine.specs.Order.{groundNumbers, Holding}
-use Rattle.engine.proofs.Orders.{past, ground-none}
+use Rattle.judging.specs.Order.{groundNumbers, Holding}
+use Rattle.judging.proofs.Orders.{past, ground-none}
 use Rattle.frames.specs.Out.{refusalText}
 use Rattle.dump.specs.Telling.{toldFrom, slotText}
 use Rattle.dump.proofs.Slots.{set-length, slot-next, slot-none, slot-told, slot-empty, dump-told}

@@ -18,13 +18,13 @@ use Rattle.frames.specs.declared.Expected.{Expected}
 use Rattle.texts.specs.declared.Taken.{Taken}
 use Rattle.texts.specs.declared.Taken.the-variants.{Next, Stopped as StoppedAt}
 use Rattle.opens.specs.declared.Begun.{Begun}
-use Rattle.engine.specs.Lent.{begun}
-use Rattle.hearing.specs.Owed.{orderCall}
-use Rattle.hearing.specs.Hearing.{Heard, turnsMost, stopped, called, waiting, modeOf, tabled, Hears}
-use Rattle.hearing.specs.declared.Order.{Order}
-use Rattle.hearing.specs.declared.Mode.{Mode}
-use Rattle.hearing.specs.declared.Mode.the-variants.{Command, Working}
-use Rattle.hearing.specs.declared.Told.{Told}
+use Rattle.opens.specs.Lent.{begun}
+use Rattle.owing.specs.Owed.{orderCall}
+use Rattle.owing.specs.Hearing.{Heard, turnsMost, stopped, called, waiting, modeOf, tabled, Hears}
+use Rattle.owing.specs.declared.Order.{Order}
+use Rattle.owing.specs.declared.Mode.{Mode}
+use Rattle.owing.specs.declared.Mode.the-variants.{Command, Working}
+use Rattle.owing.specs.declared.Told.{Told}
 
 pub refusal-length : (n line : ℕ) → length (refusalText n line) ≡ 13
 unfolding refusalText

@@ -1,13 +1,3 @@
-pub mod Windows
-pub mod Shifts
-pub mod Many
-pub mod Opened
-pub mod Coming
-pub mod Owing
-pub mod Ending
-pub mod Answering
-pub mod Stepped
-pub mod Turning
 pub mod Heard
 pub mod Dumps
 pub mod Cases

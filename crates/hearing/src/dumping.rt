@@ -1,8 +1,8 @@
 // What a dump prints.
-use crate::Mode;
-use crate::Told;
 use dump::put_sets;
 use frames::put_refusal;
+use owing::Mode;
+use owing::Told;
 use refusal::Refusal;
 use update::Open;
 use update::Record;
@@ -11,11 +11,11 @@ ghost use Prim.Native.Nat.{_+_};
 ghost use lib.ListN.{length};
 ghost use lib.Seq.{sets as setsAt};
 ghost use Rattle.update.specs.Records.{isOpen};
-ghost use Rattle.engine.specs.Lent.{lent};
-ghost use Rattle.engine.specs.Order.{Holding};
+ghost use Rattle.judging.specs.Lent.{lent};
+ghost use Rattle.judging.specs.Order.{Holding};
 ghost use Rattle.session.specs.Session.{dumpTold};
-ghost use Rattle.hearing.specs.Hearing.{Spacious};
-ghost use Rattle.hearing.specs.declared.Mode.the-variants.{Command};
+ghost use Rattle.owing.specs.Hearing.{Spacious};
+ghost use Rattle.owing.specs.declared.Mode.the-variants.{Command};
 
 fn is_open(open: Open) -> bool
     ensures { λ r. ⌜ r ≡ isOpen «open» ⌝ }

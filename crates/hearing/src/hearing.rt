@@ -1,12 +1,12 @@
 // One whole line, by what is waited for.
-use crate::Mode;
-use crate::Order;
-use crate::Told;
 use crate::dumping::tell_sets;
 use crate::opening::open_update;
 use frames::Expected;
 use frames::Frame;
 use frames::put_refusal;
+use owing::Mode;
+use owing::Order;
+use owing::Told;
 use refusal::Refusal;
 use texts::Taken;
 use texts::take_frame;
@@ -18,10 +18,10 @@ ghost use lib.ListN.{length};
 ghost use Rattle.refusal.specs.Numbers.{numberOf};
 ghost use Rattle.update.specs.Memories.{Memory};
 ghost use Rattle.texts.specs.Read.{Awaits, takenAt, wordsAfter};
-ghost use Rattle.engine.specs.Lent.{lent};
-ghost use Rattle.engine.specs.Order.{Holding};
-ghost use Rattle.hearing.specs.Owed.{Sound};
-ghost use Rattle.hearing.specs.Hearing.{stopped, strange, modeOf, tabled, ordered, commanded, keptAt, noded, hearing, Hears, Spacious};
+ghost use Rattle.judging.specs.Lent.{lent};
+ghost use Rattle.judging.specs.Order.{Holding};
+ghost use Rattle.owing.specs.Owed.{Sound};
+ghost use Rattle.owing.specs.Hearing.{stopped, strange, modeOf, tabled, ordered, commanded, keptAt, noded, hearing, Hears, Spacious};
 
 // "After 1 to 5, 13 or 14 it stops".
 fn stop(out: &mut [u8], printed: usize, record: Record, refusal: Refusal, line: u32) -> Told

@@ -1,20 +1,20 @@
 // The command whose last node has come: it is judged as a whole, and opens an update or is refused.
-use crate::Mode;
-use crate::Order;
-use crate::Told;
-use engine::Begun;
-use engine::load_judged;
-use engine::replace_judged;
 use frames::put_refusal;
+use opens::Begun;
+use opens::load_judged;
+use opens::replace_judged;
+use owing::Mode;
+use owing::Order;
+use owing::Told;
 use refusal::Verdict;
 use update::Record;
 ghost use mathlib.Core.Path.{_≡_};
 ghost use Prim.Native.Nat.{_+_, _≤_, min};
 ghost use lib.ListN.{length};
-ghost use Rattle.engine.specs.Lent.{lent, begun};
-ghost use Rattle.engine.specs.Order.{Holding};
-ghost use Rattle.hearing.specs.Owed.{orderCall};
-ghost use Rattle.hearing.specs.Hearing.{called, Hears};
+ghost use Rattle.opens.specs.Lent.{lent, begun};
+ghost use Rattle.judging.specs.Order.{Holding};
+ghost use Rattle.owing.specs.Owed.{orderCall};
+ghost use Rattle.owing.specs.Hearing.{called, Hears};
 
 // A round makes an evaluation at the least, so that no update takes more steps.
 const TURNS: u64 = 1_073_745_922;

@@ -19,14 +19,14 @@ use Rattle.texts.specs.declared.Taken.{Taken}
 use Rattle.texts.specs.declared.Taken.the-variants.{Next, Stopped as StoppedAt}
 use Rattle.texts.specs.Read.{wordsAfter, takenAt}
 use Rattle.texts.proofs.Readings.{words-length}
-use Rattle.engine.specs.Order.{Holding}
+use Rattle.judging.specs.Order.{Holding}
 use Rattle.session.specs.Session.{dumpTold}
-use Rattle.hearing.specs.Owed.{Sound, orderCall}
-use Rattle.hearing.specs.Hearing.{Heard, stopped, strange, waiting, openedBy, called, ordered, commanded, tabled, noded, keptAt, modeOf, hearing}
-use Rattle.hearing.specs.declared.Order.{Order}
-use Rattle.hearing.specs.declared.Order.the-variants.{Load, Replace}
-use Rattle.hearing.specs.declared.Mode.{Mode}
-use Rattle.hearing.specs.declared.Mode.the-variants.{Table, Command, Nodes, Working, Stopped}
+use Rattle.owing.specs.Owed.{Sound, orderCall}
+use Rattle.owing.specs.Hearing.{Heard, stopped, strange, waiting, openedBy, called, ordered, commanded, tabled, noded, keptAt, modeOf, hearing}
+use Rattle.owing.specs.declared.Order.{Order}
+use Rattle.owing.specs.declared.Order.the-variants.{Load, Replace}
+use Rattle.owing.specs.declared.Mode.{Mode}
+use Rattle.owing.specs.declared.Mode.the-variants.{Table, Command, Nodes, Working, Stopped}
 use Rattle.hearing.proofs.Heard.{refusal-length}
 use Rattle.hearing.proofs.Dumps.{dump-busy, dump-absent, dump-sets, told-most}
 

@@ -6,11 +6,11 @@ use Prim.Native.Nat.{ℕ, zero, suc, _+_, _≤_, _<_}
 use native.Mathlib.Omega.{arith}
 use lib.ListN.{length, take, drop, length-take, replicate, drop-of-length-le}
 use Rattle.session.specs.Session.{session, ownMemory}
-use Rattle.hearing.specs.Owed.{owed}
-use Rattle.hearing.specs.Laws.{listens, endText}
-use Rattle.hearing.specs.declared.Mode.{Mode}
-use Rattle.hearing.specs.declared.Mode.the-variants.{Table, Command, Nodes, Working, Stopped}
-use Rattle.hearing.proofs.Ending.{end-pays, all-owed}
+use Rattle.owing.specs.Owed.{owed}
+use Rattle.owing.specs.Laws.{listens, endText}
+use Rattle.owing.specs.declared.Mode.{Mode}
+use Rattle.owing.specs.declared.Mode.the-variants.{Table, Command, Nodes, Working, Stopped}
+use Rattle.owing.proofs.Ending.{end-pays, all-owed}
 use Rattle.desk.specs.Desk.{Desk, Fits, tableOf, lineOf, owedFor}
 use Rattle.desk.specs.Ending.{lastText}
 use Rattle.pieces.specs.Feeding.{Feeds}

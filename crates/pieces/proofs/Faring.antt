@@ -17,15 +17,15 @@ use Rattle.frames.specs.Frames.{frameAt, lineAfter}
 use Rattle.frames.specs.declared.Frame.{Frame}
 use Rattle.session.specs.Session as session
 use Rattle.session.specs.Session.{stepsTold, before, commandsFrom}
-use Rattle.hearing.specs.Owed.{owed, onward, Sound}
-use Rattle.hearing.specs.Hearing.{Heard, hearing, Hears, Spacious}
-use Rattle.hearing.specs.Telling.{RoundsTold, Rests, ended, full}
-use Rattle.hearing.specs.Laws.{listens, Pays}
-use Rattle.hearing.specs.declared.Mode.{Mode}
-use Rattle.hearing.specs.declared.Mode.the-variants.{Table, Command, Nodes, Working, Stopped}
-use Rattle.hearing.specs.declared.Told.{Told}
-use Rattle.hearing.proofs.Mode as M
-use Rattle.hearing.proofs.Owing.{line-pays}
+use Rattle.owing.specs.Owed.{owed, onward, Sound}
+use Rattle.owing.specs.Hearing.{Heard, hearing, Hears, Spacious}
+use Rattle.telling.specs.Telling.{RoundsTold, Rests, ended, full}
+use Rattle.owing.specs.Laws.{listens, Pays}
+use Rattle.owing.specs.declared.Mode.{Mode}
+use Rattle.owing.specs.declared.Mode.the-variants.{Table, Command, Nodes, Working, Stopped}
+use Rattle.owing.specs.declared.Told.{Told}
+use Rattle.owing.proofs.Mode as M
+use Rattle.owing.proofs.Owing.{line-pays}
 use Rattle.desk.specs.declared.State.{State}
 use Rattle.desk.specs.Desk.{Desk, desk, tableOf, lineOf, owedFor, Wide, Fits}
 use Rattle.desk.specs.Refusals.{settledNumbers, stateRefusal}

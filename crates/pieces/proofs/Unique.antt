@@ -12,9 +12,9 @@ use Rattle.refusal.specs.Numbers.{numberOf}
 use Rattle.refusal.specs.declared.Refusal.{Refusal}
 use Rattle.refusal.proofs.Distinct.{number-one, number-low}
 use Rattle.lines.proofs.Values.{lt-or-ge}
-use Rattle.hearing.specs.Owed.{Begun, Whole}
-use Rattle.hearing.specs.declared.Mode.{Mode}
-use Rattle.hearing.specs.declared.Mode.the-variants.{Working, Stopped}
+use Rattle.owing.specs.Owed.{Begun, Whole}
+use Rattle.owing.specs.declared.Mode.{Mode}
+use Rattle.owing.specs.declared.Mode.the-variants.{Working, Stopped}
 use Rattle.desk.specs.declared.State.{State}
 use Rattle.desk.specs.Desk.{Desk}
 use Rattle.desk.specs.Ending.{silent}

@@ -7,8 +7,8 @@ use lib.ListN.{length, drop}
 use lib.Seq.{sets}
 use Rattle.refusal.specs.declared.Refusal.{Refusal}
 use Rattle.refusal.specs.Numbers.{numberOf}
-use Rattle.hearing.specs.Laws.{listens}
-use Rattle.hearing.specs.declared.Mode.the-variants.{Stopped}
+use Rattle.owing.specs.Laws.{listens}
+use Rattle.owing.specs.declared.Mode.the-variants.{Stopped}
 use Rattle.desk.specs.declared.State.{State}
 use Rattle.desk.specs.Desk.{Desk, Fits, owedFor}
 use Rattle.desk.specs.Refusals.{stateRefusal}

@@ -5,8 +5,8 @@ use mathlib.Core.List.{List, [], _∷_, _++_}
 use Prim.Native.Nat.{ℕ, _≤_}
 use lib.ListN.{length, replicate}
 use Rattle.session.specs.Session.{session, ownMemory}
-use Rattle.hearing.specs.declared.Mode.{Mode}
-use Rattle.hearing.specs.declared.Mode.the-variants.{Table}
+use Rattle.owing.specs.declared.Mode.{Mode}
+use Rattle.owing.specs.declared.Mode.the-variants.{Table}
 use Rattle.frames.specs.declared.Expected.the-variants.{AtHeader}
 use Rattle.desk.specs.Desk.{Desk, Fits, tableOf, lineOf}
 use Rattle.desk.specs.Ending.{lastText}

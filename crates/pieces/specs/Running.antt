@@ -6,9 +6,9 @@ use Prim.Native.Nat.{ℕ, _+_, _-_}
 use lib.ListN.{length, take}
 use lib.Seq.{sets}
 use Rattle.frames.specs.Frames.{frameAt, lineAfter}
-use Rattle.hearing.specs.Hearing.{Heard, hearing, Spacious}
-use Rattle.hearing.specs.Telling.{Worked, stepsWithin}
-use Rattle.hearing.specs.declared.Mode.the-variants.{Working, Stopped}
+use Rattle.owing.specs.Hearing.{Heard, hearing, Spacious}
+use Rattle.telling.specs.Telling.{Worked, stepsWithin}
+use Rattle.owing.specs.declared.Mode.the-variants.{Working, Stopped}
 use Rattle.desk.specs.Desk.{Desk, desk, tableOf}
 use Rattle.desk.specs.Ending.{silent}
 use Rattle.desk.specs.Gathering.{Gathers}

@@ -6,8 +6,8 @@ use lib.ListN.{length, take}
 use lib.Seq.{sets}
 use Rattle.refusal.proofs.Distinct.{sound-zero, refused-number}
 use Rattle.update.specs.Memories.{Memory}
-use Rattle.engine.specs.Lent.{lent}
-use Rattle.engine.proofs.Orders.{Looked, looked}
+use Rattle.judging.specs.Lent.{lent}
+use Rattle.judging.proofs.Orders.{Looked, looked}
 use Rattle.dump.specs.Calls.{dumpedText}
 use Rattle.dump.specs.Telling.{toldFrom, Tellable}
 use Rattle.dump.proofs.Slots.{dump-told, tellable}

@@ -15,9 +15,9 @@ use Rattle.lines.proofs.Fields.{line-length}
 use Rattle.frames.specs.Out.{refusalText}
 use Rattle.frames.specs.declared.Written.{Written}
 use Rattle.frames.specs.declared.Written.the-variants.{Length, Refused}
-use Rattle.hearing.specs.Laws.{endText}
-use Rattle.hearing.specs.declared.Mode.{Mode}
-use Rattle.hearing.specs.declared.Mode.the-variants.{Table, Command, Nodes, Working, Stopped}
+use Rattle.owing.specs.Laws.{endText}
+use Rattle.owing.specs.declared.Mode.{Mode}
+use Rattle.owing.specs.declared.Mode.the-variants.{Table, Command, Nodes, Working, Stopped}
 use Rattle.desk.specs.Ending.{lastText, finished, finishedOut, inside, silent}
 use Rattle.desk.specs.declared.State.{State}
 use Rattle.desk.proofs.ending.finish.Statement.{statement}

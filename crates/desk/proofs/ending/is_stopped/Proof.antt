@@ -4,9 +4,9 @@ use mathlib.Core.List.{List, [], _∷_}
 use types.Run.{OneOf, miss}
 use denote.Enum.Declared.{tagOf}
 use borrow.Author.Needs.{needs}
-use Rattle.hearing.specs.declared.Mode.{Mode}
-use Rattle.hearing.specs.declared.Mode.the-variants.{Stopped}
-use Rattle.hearing.proofs.Mode as M
+use Rattle.owing.specs.declared.Mode.{Mode}
+use Rattle.owing.specs.declared.Mode.the-variants.{Stopped}
+use Rattle.owing.proofs.Mode as M
 use Rattle.desk.proofs.Deciding.{tests-no}
 use Rattle.desk.proofs.ending.is_stopped.Statement.{statement}
 use Rattle.desk.proofs.ending.is_stopped.Tie as tie

@@ -7,7 +7,7 @@ use borrow.Author.Count.{below-more}
 use borrow.Author.Needs.{needs}
 use lib.ListN.{length, take, getD, length-take}
 use lib.Seq.{getD-take, length-take-le}
-use Rattle.hearing.specs.Owed.{Begun}
+use Rattle.owing.specs.Owed.{Begun}
 use Rattle.desk.proofs.Deciding.{tests-yes, tests-no}
 use Rattle.desk.proofs.fitting.is_begun.Statement.{statement}
 use Rattle.desk.proofs.fitting.is_begun.Tie as tie

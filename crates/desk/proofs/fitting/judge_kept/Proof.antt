@@ -12,9 +12,9 @@ use Rattle.table.specs.First.{first}
 use Rattle.update.specs.declared.Record.{Record}
 use Rattle.update.specs.Memories.{Memory}
 use Rattle.update.specs.Refusals.{firstRefusal, heldRefusal}
-use Rattle.engine.specs.Lent.{lent}
-use Rattle.engine.specs.Order.{groundNumbers, heldNumbers}
-use Rattle.engine.proofs.Orders.{grounded, past, stopped}
+use Rattle.judging.specs.Lent.{lent}
+use Rattle.judging.specs.Order.{groundNumbers, heldNumbers}
+use Rattle.judging.proofs.Orders.{grounded, past, stopped}
 use Rattle.desk.specs.Refusals.{keptNumbers}
 use Rattle.desk.proofs.fitting.judge_kept.Statement.{statement}
 use Rattle.desk.proofs.fitting.judge_kept.Tie as tie

@@ -13,12 +13,12 @@ use Rattle.climb.proofs.Lists.{either}
 use Rattle.update.specs.Memories.{Memory}
 use Rattle.update.specs.Refusals.{firstRefusal, stepRefusal}
 use Rattle.frames.specs.declared.Expected.{Expected}
-use Rattle.engine.specs.Lent.{lent}
-use Rattle.engine.proofs.Orders.{or-zero}
-use Rattle.hearing.specs.Owed.{Begun}
-use Rattle.hearing.specs.declared.Order.{Order}
-use Rattle.hearing.specs.declared.Mode.{Mode}
-use Rattle.hearing.specs.declared.Mode.the-variants.{Table, Command, Nodes, Working, Stopped}
+use Rattle.judging.specs.Lent.{lent}
+use Rattle.judging.proofs.Orders.{or-zero}
+use Rattle.owing.specs.Owed.{Begun}
+use Rattle.owing.specs.declared.Order.{Order}
+use Rattle.owing.specs.declared.Mode.{Mode}
+use Rattle.owing.specs.declared.Mode.the-variants.{Table, Command, Nodes, Working, Stopped}
 use Rattle.desk.specs.Desk.{Tests}
 use Rattle.desk.specs.Refusals.{overrun, sofarRefusal, keptNumbers, modeRefusal, settledNumbers}
 use Rattle.desk.specs.declared.State.{State}

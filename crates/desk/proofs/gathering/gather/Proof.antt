@@ -10,7 +10,7 @@ use borrow.Author.Needs.{needs}
 use lib.ListN.{length, getD, set, take, drop, length-set, length-drop}
 use lib.Seq.{length-take-le, take-suc, take-suc-set, drop-set-lt, drop-drop, getD-drop, getD-take, getD-set-same, getD-set-other}
 use Rattle.lines.proofs.Values.{lt-or-ge}
-use Rattle.hearing.specs.Owed.{Begun, Whole}
+use Rattle.owing.specs.Owed.{Begun, Whole}
 use Rattle.desk.specs.Gathering.{Gathers}
 use Rattle.desk.proofs.gathering.gather.Statement.{statement}
 use Rattle.desk.proofs.gathering.gather.Tie as tie

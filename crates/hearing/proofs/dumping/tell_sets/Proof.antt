@@ -1,7 +1,7 @@
 -- 10, then 16, then the sets, each written by one call. Assumes nothing.
 use Rattle.hearing.proofs.Dumps.{dump-busy, dump-absent, dump-sets, told-most, told-refused}
 use Rattle.dump.proofs.Slots.{tellable}
-use Rattle.engine.specs.Lent.{lent}
+use Rattle.judging.specs.Lent.{lent}
 use Rattle.update.specs.Memories.{Memory}
 use native.Mathlib.Omega.{arith}
 use borrow.Author.Tests.{not-true, not-false}

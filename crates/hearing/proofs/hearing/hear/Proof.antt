@@ -2,7 +2,7 @@
 use native.Mathlib.Omega.{arith}
 use lib.ListN.{length}
 use Prim.Native.Nat.{_+_, _≤_}
-use Rattle.engine.specs.Lent.{lent}
+use Rattle.judging.specs.Lent.{lent}
 use Rattle.texts.proofs.Sofar.{awaits-so}
 use Rattle.update.specs.Memories.{Memory}
 use Rattle.hearing.proofs.Cases.{by-table, by-command, by-nodes, by-working, by-stopped}

@@ -3,7 +3,7 @@ use native.Mathlib.Omega.{arith}
 use mathlib.Core.Path.{_≡_, refl}
 use lib.ListN.{length}
 use Prim.Native.Nat.{_+_, _≤_}
-use Rattle.engine.specs.Lent.{lent}
+use Rattle.judging.specs.Lent.{lent}
 use Rattle.update.specs.Memories.{Memory}
 use Rattle.hearing.proofs.Cases.{no-command, a-load, a-replacement, a-dump}
 use Rattle.hearing.proofs.Heard.{as-well}

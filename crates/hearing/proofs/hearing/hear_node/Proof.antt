@@ -1,7 +1,7 @@
 -- A node is kept, and the next is waited for or the command carried out. Assumes nothing.
 use mathlib.Core.Path.{_≡_, _∙_}
 use native.Mathlib.Omega.{arith}
-use Rattle.engine.specs.Lent.{lent}
+use Rattle.judging.specs.Lent.{lent}
 use Rattle.update.specs.Memories.{Memory}
 use Rattle.hearing.proofs.Cases.{no-node, more-nodes, last-node, kept-room}
 use Rattle.hearing.proofs.Heard.{as-well, silent, kept-as, called-as}

@@ -1,7 +1,7 @@
 -- No nodes, or some to wait for. Assumes nothing.
 use mathlib.Core.Path.{_≡_}
 use native.Mathlib.Omega.{arith}
-use Rattle.engine.specs.Lent.{lent}
+use Rattle.judging.specs.Lent.{lent}
 use Rattle.update.specs.Memories.{Memory}
 use Rattle.hearing.proofs.Cases.{no-nodes, some-nodes}
 use Rattle.hearing.proofs.Heard.{as-well, silent}

@@ -1,6 +1,6 @@
 -- The refusal's line, and nothing else. Assumes nothing.
 use Rattle.refusal.specs.Numbers.{numberOf}
-use Rattle.hearing.specs.declared.Mode.the-variants.{Stopped}
+use Rattle.owing.specs.declared.Mode.the-variants.{Stopped}
 use Rattle.hearing.proofs.Heard.{refusing}
 use borrow.Author.Needs.{needs}
 use Rattle.hearing.proofs.hearing.stop.Statement.{statement}

@@ -1,5 +1,5 @@
 -- The verdict of the call, and the update that it opens or the refusal that is printed. Assumes nothing.
-use Rattle.engine.specs.Lent.{lent}
+use Rattle.judging.specs.Lent.{lent}
 use Rattle.update.specs.Memories.{Memory}
 use Rattle.hearing.proofs.Heard.{as-well, silent, refusing, called-open, called-refused, taken-length}
 use borrow.Author.Needs.{needs}

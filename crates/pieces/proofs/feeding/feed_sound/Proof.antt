@@ -4,7 +4,7 @@ use Rattle.desk.proofs.Deciding.{tested-not}
 use Rattle.pieces.specs.Running.{moment}
 use Rattle.pieces.specs.Faring.{Fares, Sized, toDo}
 use Rattle.desk.specs.Desk.{desk}
-use Rattle.engine.specs.Lent.{lent}
+use Rattle.judging.specs.Lent.{lent}
 use borrow.Author.Tests.{not-true, not-false}
 use native.Mathlib.Omega.{arith}
 use borrow.Author.Needs.{needs}

@@ -1,7 +1,7 @@
 -- The frame is that of the first bytes of the window. Assumes nothing.
 use Rattle.hearing.proofs.Heard.{as-well}
-use Rattle.hearing.specs.Hearing.{hearing}
-use Rattle.engine.specs.Lent.{lent}
+use Rattle.owing.specs.Hearing.{hearing}
+use Rattle.judging.specs.Lent.{lent}
 use Rattle.frames.specs.declared.Step.{Step}
 use lib.Seq.{length-take-le}
 use mathlib.Core.Path.{ap, sym}

@@ -1,7 +1,7 @@
 -- Rounds, nothing behind the end, or a line. Assumes nothing.
 use Rattle.pieces.proofs.Faring.{not-working, not-silent, sound-here, rounds-told, over}
 use Rattle.desk.proofs.Deciding.{tested-not}
-use Rattle.engine.specs.Lent.{lent}
+use Rattle.judging.specs.Lent.{lent}
 use native.Mathlib.Omega.{arith}
 use mathlib.Core.Path.{refl}
 use borrow.Author.Needs.{needs}

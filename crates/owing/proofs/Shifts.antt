@@ -33,8 +33,8 @@ use Rattle.frames.specs.declared.Expected.the-variants.{AtHeader, AtSymbol, AtP
 use Rattle.frames.specs.declared.Step.{Step}
 use Rattle.frames.proofs.Back.{frame-behind}
 use Rattle.session.specs.Session.{Told, withNodes, openedThen, dumpTold, command, commandsFrom}
-use Rattle.hearing.specs.Owed.{tableThen}
-use Rattle.hearing.proofs.Windows.{none-left}
+use Rattle.owing.specs.Owed.{tableThen}
+use Rattle.owing.proofs.Windows.{none-left}
 
 -- ---- a frame that has a type moves on
 

@@ -17,12 +17,12 @@ use Rattle.planting.specs.Planting.{nodesAt}
 use Rattle.frames.specs.declared.Frame.the-variants as frame
 use Rattle.frames.specs.declared.Expected.the-variants.{AtHeader}
 use Rattle.session.specs.Session.{commandsFrom, session, afterTable, ownMemory}
-use Rattle.hearing.specs.Owed.{tableThen, owed, Sound, Begun}
-use Rattle.hearing.specs.Laws.{listens, endText, EndPays, AllOwed}
-use Rattle.hearing.specs.declared.Mode.{Mode}
-use Rattle.hearing.specs.declared.Mode.the-variants.{Table, Command, Nodes as NodesOf, Working, Stopped}
-use Rattle.hearing.proofs.Windows.{none-left, begun}
-use Rattle.hearing.proofs.Shifts.{read-none, read-turn, broken-taken}
+use Rattle.owing.specs.Owed.{tableThen, owed, Sound, Begun}
+use Rattle.owing.specs.Laws.{listens, endText, EndPays, AllOwed}
+use Rattle.owing.specs.declared.Mode.{Mode}
+use Rattle.owing.specs.declared.Mode.the-variants.{Table, Command, Nodes as NodesOf, Working, Stopped}
+use Rattle.owing.proofs.Windows.{none-left, begun}
+use Rattle.owing.proofs.Shifts.{read-none, read-turn, broken-taken}
 
 module _ (t ps os : List ℕ) (m : Memory) (r : Record) (line : ℕ) where
   -- the text has ended: no byte is left

@@ -24,12 +24,12 @@ use Rattle.update.specs.Within.{Roomy}
 use Rattle.update.proofs.Within.{short-means, beyond-means, all-shut}
 use Rattle.update.proofs.Refusing.{all-exactly}
 use Rattle.update.proofs.Leaving.{all-open-within}
-use Rattle.engine.specs.Order.{Holding, Going}
-use Rattle.engine.proofs.Orders.{tree-judged, tree-equal, tree-sound}
-use Rattle.hearing.specs.Owed.{orderCall, Sound}
-use Rattle.hearing.specs.Hearing.{Heard, openedBy}
-use Rattle.hearing.specs.declared.Order.{Order}
-use Rattle.hearing.specs.declared.Order.the-variants.{Load, Replace}
+use Rattle.judging.specs.Order.{Holding, Going}
+use Rattle.judging.proofs.Orders.{tree-judged, tree-equal, tree-sound}
+use Rattle.owing.specs.Owed.{orderCall, Sound}
+use Rattle.owing.specs.Hearing.{Heard, openedBy}
+use Rattle.owing.specs.declared.Order.{Order}
+use Rattle.owing.specs.declared.Order.the-variants.{Load, Replace}
 
 -- ---- before the first command
 

@@ -8,15 +8,15 @@ use lib.ListN.{length, replicate}
 use Rattle.update.specs.declared.Record.{Record}
 use Rattle.update.specs.Memories.{Memory}
 use Rattle.update.specs.Within.{Roomy}
-use Rattle.engine.specs.Order.{Holding}
+use Rattle.judging.specs.Order.{Holding}
 use Rattle.frames.specs.Frames.{frameAt, lineAfter}
 use Rattle.frames.specs.Out.{refusalText}
 use Rattle.frames.specs.declared.Expected.the-variants.{AtHeader}
 use Rattle.session.specs.Session.{session, ownMemory}
-use Rattle.hearing.specs.Owed.{owed, Sound, Begun, Whole}
-use Rattle.hearing.specs.Hearing.{Heard, hearing}
-use Rattle.hearing.specs.declared.Mode.{Mode}
-use Rattle.hearing.specs.declared.Mode.the-variants.{Table, Command, Nodes, Working, Stopped}
+use Rattle.owing.specs.Owed.{owed, Sound, Begun, Whole}
+use Rattle.owing.specs.Hearing.{Heard, hearing}
+use Rattle.owing.specs.declared.Mode.{Mode}
+use Rattle.owing.specs.declared.Mode.the-variants.{Table, Command, Nodes, Working, Stopped}
 
 -- a line is waited for, or nothing more is: not so while an update is at work
 abbrev pub listens : Mode → Bool

@@ -16,11 +16,11 @@ use Rattle.update.specs.Memories.{Memory}
 use Rattle.update.specs.Calls.{Said, Left, Opened}
 use Rattle.planting.specs.Planting.{Nodes, good, bad, before}
 use Rattle.session.specs.Session.{Told, withNodes}
-use Rattle.hearing.specs.Owed.{orderCall, heard, behind}
-use Rattle.hearing.specs.Hearing.{keptAt}
-use Rattle.hearing.specs.declared.Order.{Order}
-use Rattle.hearing.proofs.Shifts.{movedNodes}
-use Rattle.hearing.proofs.Many.{order-many}
+use Rattle.owing.specs.Owed.{orderCall, heard, behind}
+use Rattle.owing.specs.Hearing.{keptAt}
+use Rattle.owing.specs.declared.Order.{Order}
+use Rattle.owing.proofs.Shifts.{movedNodes}
+use Rattle.owing.proofs.Many.{order-many}
 
 pub heard-none : (count : ℕ) (xs : List ℕ) → heard count 0 xs ≡ []
 unfolding heard

@@ -10,12 +10,12 @@ use Rattle.update.specs.Steps.{Outcome}
 use Rattle.update.specs.Calls.{Said, answerSays}
 use Rattle.steps.specs.Arranged.{circlesIn}
 use Rattle.steps.proofs.Continuing.{step-within, lent-kept}
-use Rattle.hearing.specs.Telling.{Printable}
-use Rattle.hearing.proofs.Stepped.{step-fits}
-use Rattle.hearing.proofs.Turning.{Turn, turn-first, turn-full, turn-over, turn-on, turn-done}
+use Rattle.telling.specs.Telling.{Printable}
+use Rattle.telling.proofs.Stepped.{step-fits}
+use Rattle.telling.proofs.Turning.{Turn, turn-first, turn-full, turn-over, turn-on, turn-done}
 use borrow.Author.Needs.{needs}
-use Rattle.hearing.proofs.telling.tell_steps.Statement.{statement}
-use Rattle.hearing.proofs.telling.tell_steps.Tie as tie
+use Rattle.telling.proofs.tell_steps.Statement.{statement}
+use Rattle.telling.proofs.tell_steps.Tie as tie
 
 abbrev Inv-loop : tie.InvT-loop
 Inv-loop table owns a b left rule label members ends count n before turns sets₀ values₀ out₀ printed work₀ at₀ still₀ sets values out work at still =

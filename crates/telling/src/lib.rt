@@ -1,9 +1,9 @@
 // What an update's rounds print.
-use crate::Mode;
-use crate::Told;
 use engine::prepare;
 use frames::put_done;
 use frames::put_round;
+use owing::Mode;
+use owing::Told;
 use steps::step_in;
 use update::Answer;
 use update::Record;
@@ -15,10 +15,10 @@ ghost use Rattle.climb.specs.Wired.{Wiring};
 ghost use Rattle.update.specs.Within.{WithinLimits};
 ghost use Rattle.update.specs.Calls.{answerSays};
 ghost use Rattle.steps.specs.Arranged.{Circles, Lent};
-ghost use Rattle.engine.specs.Lent.{lent};
-ghost use Rattle.engine.specs.Order.{Going};
+ghost use Rattle.judging.specs.Lent.{lent};
+ghost use Rattle.judging.specs.Order.{Going};
 ghost use Rattle.engine.specs.Prepared.{Scratch};
-ghost use Rattle.hearing.specs.Telling.{Printable, AnswerPut, RoundsTold, TurnsTold};
+ghost use Rattle.telling.specs.Telling.{Printable, AnswerPut, RoundsTold, TurnsTold};
 
 fn bit(closed: bool) -> u8
     ensures { λ r. ⌜ r ≡ cond closed 1 0 ⌝ }

@@ -10,14 +10,14 @@ use Rattle.update.specs.declared.Record.{Record}
 use Rattle.update.specs.Memories.{Memory}
 use Rattle.update.specs.Steps.{Outcome, round, done}
 use Rattle.update.specs.Calls.{Said, refused, said, stepCall}
-use Rattle.engine.specs.Lent.{lent}
-use Rattle.engine.specs.Order.{Holding, Going}
+use Rattle.judging.specs.Lent.{lent}
+use Rattle.judging.specs.Order.{Holding, Going}
 use Rattle.engine.specs.Prepared.{Holds}
 use Rattle.session.specs.Session as session
 use Rattle.session.specs.Session.{stepsTold, before, outcomeText}
-use Rattle.hearing.specs.declared.Mode.{Mode}
-use Rattle.hearing.specs.declared.Mode.the-variants.{Command, Working}
-use Rattle.hearing.specs.declared.Told.{Told}
+use Rattle.owing.specs.declared.Mode.{Mode}
+use Rattle.owing.specs.declared.Mode.the-variants.{Command, Working}
+use Rattle.owing.specs.declared.Told.{Told}
 
 -- ---- the line of one answer
 

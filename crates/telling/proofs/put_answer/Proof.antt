@@ -1,9 +1,9 @@
 -- Each answer's numbers fit its line. Assumes nothing.
 use native.Mathlib.Omega.{arith}
-use Rattle.hearing.proofs.Answering.{round-fits, done-fits, not-refused, round-put, done-put}
+use Rattle.telling.proofs.Answering.{round-fits, done-fits, not-refused, round-put, done-put}
 use borrow.Author.Needs.{needs}
-use Rattle.hearing.proofs.telling.put_answer.Statement.{statement}
-use Rattle.hearing.proofs.telling.put_answer.Tie as tie
+use Rattle.telling.proofs.put_answer.Statement.{statement}
+use Rattle.telling.proofs.put_answer.Tie as tie
 
 pub put-answer-spec : {M : Type 1} → statement M
 put-answer-spec =

@@ -16,12 +16,12 @@ use Rattle.texts.specs.Reading as table
 use Rattle.texts.specs.Reading.{Reading, readOn}
 use Rattle.planting.specs.Planting.{Nodes, good, bad, nodesAt}
 use Rattle.frames.specs.Out.{refusalText}
-use Rattle.engine.specs.Order.{Holding, Going}
+use Rattle.judging.specs.Order.{Holding, Going}
 use Rattle.session.specs.Session.{openedThen, stepsTold, andOn, withNodes, commandsFrom}
-use Rattle.hearing.specs.declared.Order.{Order}
-use Rattle.hearing.specs.declared.Order.the-variants.{Load, Replace}
-use Rattle.hearing.specs.declared.Mode.{Mode}
-use Rattle.hearing.specs.declared.Mode.the-variants.{Table, Command, Nodes as NodesOf, Working, Stopped}
+use Rattle.owing.specs.declared.Order.{Order}
+use Rattle.owing.specs.declared.Order.the-variants.{Load, Replace}
+use Rattle.owing.specs.declared.Mode.{Mode}
+use Rattle.owing.specs.declared.Mode.the-variants.{Table, Command, Nodes as NodesOf, Working, Stopped}
 
 -- ---- the commands that the text s holds from its start on
 

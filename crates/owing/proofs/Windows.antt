@@ -22,7 +22,7 @@ use Rattle.frames.specs.Frames.{wrongLength, sized, childAt, dumpOf, headerOf, 
 use Rattle.texts.specs.Read.{typeOf}
 use Rattle.frames.specs.declared.Frame.{Frame}
 use Rattle.frames.specs.declared.Frame.the-variants.{Header, Symbol, Production, Equation, Node, Load, Replace, Dump, Refused, Over}
-use Rattle.hearing.specs.Owed.{Begun, Whole}
+use Rattle.owing.specs.Owed.{Begun, Whole}
 
 -- ---- rows of digits
 

@@ -1,4 +1,3 @@
 pub mod Owed
 pub mod Hearing
-pub mod Telling
 pub mod Laws

@@ -15,9 +15,9 @@ use Rattle.update.specs.Records.{isOpen, beyond}
 use Rattle.update.specs.Memories.{Memory, nodesOf}
 use Rattle.update.specs.Refusals.{when, short, heldRefusal, loadRefusal, passes, replaceRefusal}
 use Rattle.update.specs.Calls.{Said, Left, Opened, unless, loadCall, replaceCall}
-use Rattle.hearing.specs.Owed.{orderCall}
-use Rattle.hearing.specs.declared.Order.{Order}
-use Rattle.hearing.specs.declared.Order.the-variants.{Load, Replace}
+use Rattle.owing.specs.Owed.{orderCall}
+use Rattle.owing.specs.declared.Order.{Order}
+use Rattle.owing.specs.declared.Order.the-variants.{Load, Replace}
 
 or-some : (a b : ℕ) → 0 < b → 0 < orElse a b
 or-some zero b h = h

@@ -6,11 +6,11 @@ use native.Mathlib.Omega.{arith}
 use lib.ListN.{length, take}
 use lib.Seq.{length-take-le}
 use Rattle.wire.specs.Turns.{Held}
-use Rattle.engine.proofs.Orders.{tree-sound}
+use Rattle.judging.proofs.Orders.{tree-sound}
 use Rattle.engine.proofs.Preparing.{prepared-holds, prepared-long}
 use borrow.Author.Needs.{needs}
-use Rattle.hearing.proofs.telling.tell_rounds.Statement.{statement}
-use Rattle.hearing.proofs.telling.tell_rounds.Tie as tie
+use Rattle.telling.proofs.tell_rounds.Statement.{statement}
+use Rattle.telling.proofs.tell_rounds.Tie as tie
 
 abbrev nodes : tie.Start → ℕ
 nodes s = s .args .«record» .nodes

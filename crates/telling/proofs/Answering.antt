@@ -14,7 +14,7 @@ use Rattle.update.specs.declared.Answer.the-variants.{Round, Done, Refused}
 use Rattle.update.specs.Steps.{Outcome, round, done}
 use Rattle.update.specs.Calls.{answerSays}
 use Rattle.session.specs.Session.{outcomeText}
-use Rattle.hearing.specs.Telling.{Printable, AnswerPut}
+use Rattle.telling.specs.Telling.{Printable, AnswerPut}
 
 -- ---- the numbers of each answer fit
 

@@ -13,7 +13,7 @@ use Rattle.update.specs.Records.{emptyRecord}
 use Rattle.update.specs.Memories.{Memory}
 use Rattle.update.specs.Within.{Roomy}
 use Rattle.update.specs.Calls.{Said, refused, said, Left, Opened, is-open}
-use Rattle.engine.specs.Order.{Holding}
+use Rattle.judging.specs.Order.{Holding}
 use Rattle.frames.specs.Frames.{frameAt, lineAfter}
 use Rattle.frames.specs.Walk.{isOn}
 use Rattle.texts.specs.Read.{Sofar, typeOf, takenAt, wordsAfter}
@@ -29,17 +29,17 @@ use Rattle.frames.specs.declared.Frame.the-variants as frame
 use Rattle.frames.specs.declared.Expected.{Expected}
 use Rattle.frames.specs.declared.Expected.the-variants.{AtHeader, AtSymbol, AtProduction, AtEquation, Ended}
 use Rattle.session.specs.Session.{Told, andOn, withNodes, openedThen, dumpTold, command, commandsFrom}
-use Rattle.hearing.specs.Owed.{commands, onward, orderCall, heard, behind, tableThen, owed, Sound}
-use Rattle.hearing.specs.Hearing.{Heard, stopped, waiting, openedBy, called, ordered, commanded, modeOf, tabled, keptAt, noded, hearing}
-use Rattle.hearing.specs.Laws.{Pays, LinePays}
-use Rattle.hearing.specs.declared.Order.{Order}
-use Rattle.hearing.specs.declared.Order.the-variants.{Load, Replace}
-use Rattle.hearing.specs.declared.Mode.{Mode}
-use Rattle.hearing.specs.declared.Mode.the-variants.{Table, Command, Nodes as NodesOf, Working, Stopped}
-use Rattle.hearing.proofs.Windows.{Front, front}
-use Rattle.hearing.proofs.Shifts.{command-moved, with-moved, onward-shift, nodes-shift, table-shift, read-shift, read-shut, read-turn, taken-type}
-use Rattle.hearing.proofs.Opened.{empty-holds, order-keeps}
-use Rattle.hearing.proofs.Coming.{heard-none, order-next, order-last, with-node, behind-none, behind-moved}
+use Rattle.owing.specs.Owed.{commands, onward, orderCall, heard, behind, tableThen, owed, Sound}
+use Rattle.owing.specs.Hearing.{Heard, stopped, waiting, openedBy, called, ordered, commanded, modeOf, tabled, keptAt, noded, hearing}
+use Rattle.owing.specs.Laws.{Pays, LinePays}
+use Rattle.owing.specs.declared.Order.{Order}
+use Rattle.owing.specs.declared.Order.the-variants.{Load, Replace}
+use Rattle.owing.specs.declared.Mode.{Mode}
+use Rattle.owing.specs.declared.Mode.the-variants.{Table, Command, Nodes as NodesOf, Working, Stopped}
+use Rattle.owing.proofs.Windows.{Front, front}
+use Rattle.owing.proofs.Shifts.{command-moved, with-moved, onward-shift, nodes-shift, table-shift, read-shift, read-shut, read-turn, taken-type}
+use Rattle.owing.proofs.Opened.{empty-holds, order-keeps}
+use Rattle.owing.proofs.Coming.{heard-none, order-next, order-last, with-node, behind-none, behind-moved}
 
 -- what a line prints, and what is owed behind it
 abbrev owes : Heard → ℕ → List ℕ → List ℕ

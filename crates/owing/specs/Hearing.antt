@@ -20,12 +20,12 @@ use Rattle.frames.specs.declared.Frame.the-variants as frame
 use Rattle.texts.specs.Read.{wordsAfter, takenAt}
 use Rattle.frames.specs.Out.{refusalText}
 use Rattle.session.specs.Session.{dumpTold}
-use Rattle.hearing.specs.Owed.{orderCall}
-use Rattle.hearing.specs.declared.Order.{Order}
-use Rattle.hearing.specs.declared.Order.the-variants.{Load, Replace}
-use Rattle.hearing.specs.declared.Mode.{Mode}
-use Rattle.hearing.specs.declared.Mode.the-variants.{Table, Command, Nodes, Working, Stopped}
-use Rattle.hearing.specs.declared.Told.{Told}
+use Rattle.owing.specs.Owed.{orderCall}
+use Rattle.owing.specs.declared.Order.{Order}
+use Rattle.owing.specs.declared.Order.the-variants.{Load, Replace}
+use Rattle.owing.specs.declared.Mode.{Mode}
+use Rattle.owing.specs.declared.Mode.the-variants.{Table, Command, Nodes, Working, Stopped}
+use Rattle.owing.specs.declared.Told.{Told}
 
 -- what is waited for, what is printed, and the record, the table's words, the nodes that have come and the memory
 pub record Heard : Type 0 where

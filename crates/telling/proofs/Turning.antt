@@ -25,15 +25,15 @@ use Rattle.update.specs.Calls.{Said, said, answerSays, Left, withSets, stepCall
 use Rattle.steps.specs.Arranged.{circlesIn}
 use Rattle.steps.specs.Says.{StepSays}
 use Rattle.engine.specs.Lent.{lent, stepped}
-use Rattle.engine.specs.Order.{Grounded, Holding, Going}
+use Rattle.judging.specs.Order.{Grounded, Holding, Going}
 use Rattle.engine.specs.Prepared.{Holds}
 use Rattle.engine.proofs.Stepping.{step-carried}
 use Rattle.session.specs.Session as session
 use Rattle.session.specs.Session.{stepThen, stepsTold, before, outcomeText}
-use Rattle.hearing.specs.Telling.{AnswerPut, Worked, behindText, stepWithin, stepsWithin, Rests, ended, full, TurnsTold}
-use Rattle.hearing.specs.declared.Mode.the-variants.{Command, Working}
-use Rattle.hearing.specs.declared.Told.{Told}
-use Rattle.hearing.proofs.Stepped.{isDone, step-keeps}
+use Rattle.telling.specs.Telling.{AnswerPut, Worked, behindText, stepWithin, stepsWithin, Rests, ended, full, TurnsTold}
+use Rattle.owing.specs.declared.Mode.the-variants.{Command, Working}
+use Rattle.owing.specs.declared.Told.{Told}
+use Rattle.telling.proofs.Stepped.{isDone, step-keeps}
 
 -- ---- what a step leaves can be worked on, or is held
 

@@ -1,0 +1,7 @@
+pub mod Windows
+pub mod Shifts
+pub mod Many
+pub mod Opened
+pub mod Coming
+pub mod Owing
+pub mod Ending

@@ -1,0 +1,32 @@
+// What a session waits for and what it owes: from each state between two lines on, all that is still to be printed.
+use frames::Expected;
+use update::Record;
+
+// The two commands that open an update; a replacement names its point.
+pub enum Order {
+    Load,
+    Replace(usize),
+}
+
+// What is waited for: a frame of the table, a command, a node of a command at its line, or nothing while an update has rounds to make; or the session is over.
+pub enum Mode {
+    Table(Expected),
+    Command,
+    Nodes {
+        order: Order,
+        count: usize,
+        taken: usize,
+        line: u32,
+    },
+    Working {
+        turns: u64,
+    },
+    Stopped,
+}
+
+// What a line or some rounds lead to, and where the next byte is printed.
+pub struct Told {
+    pub mode: Mode,
+    pub record: Record,
+    pub printed: usize,
+}
