@@ -1,6 +1,4 @@
-pub mod Orders
 pub mod Answers
-pub mod Parts
 pub mod Alike
 pub mod Listed
 pub mod Preparing

@@ -16,7 +16,7 @@ use Rattle.circles.specs.Laws.{Rising, step, sumTo, circleAt, declaredCount, Gr
 use Rattle.circles.proofs.Lists.{bool-same, of-member, or-parts}
 use Rattle.circles.proofs.Listing.{of-circle, labelled}
 use Rattle.circles.proofs.Sequence.{circles, taken, ordered}
-use Rattle.steps.specs.Arranged.{Listed}
+use Rattle.rounds.specs.Arranged.{Listed}
 
 rising-least : {k : ℕ} (l : List ℕ) (y : ℕ) → Rising k l → member l y ≡ true → k ≤ y
 rising-least [] y r m = absurd (false≢true m)

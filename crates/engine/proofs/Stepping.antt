@@ -23,10 +23,10 @@ use Rattle.update.specs.Memories.{Memory, nodesOf, ownsOf}
 use Rattle.update.specs.Refusals.{stepRefusal}
 use Rattle.update.specs.Steps.{stepOf, runOf}
 use Rattle.update.specs.Calls.{systemOf, circlesOf, withSets, stepLeft, stepCall, runLeft, runCall}
-use Rattle.steps.specs.Arranged.{circlesIn}
+use Rattle.rounds.specs.Arranged.{circlesIn}
 use Rattle.steps.specs.Says.{StepSays, RunSays}
 use Rattle.engine.specs.Lent.{stepped, advanced}
-use Rattle.engine.specs.Order.{Going}
+use Rattle.judging.specs.Order.{Going}
 use Rattle.engine.specs.Prepared.{Holds}
 use Rattle.judging.proofs.Orders.{step-none}
 use Rattle.opens.proofs.Answers.{by, left-carried}

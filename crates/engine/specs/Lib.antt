@@ -1,4 +1,3 @@
 pub mod Lent
-pub mod Order
 pub mod Prepared
 pub mod Unique

@@ -11,7 +11,7 @@ use Rattle.wire.specs.Instances.{system as systemOf}
 use Rattle.wire.specs.Arrays.{Wired}
 use Rattle.wire.specs.ArrayLaws.{Alike}
 use Rattle.wire.specs.Turns.{Held}
-use Rattle.steps.specs.Arranged.{circlesIn, Circles}
+use Rattle.rounds.specs.Arranged.{circlesIn, Circles}
 
 -- the lent arrays have their places: 4,096 slots, and one end more
 pub record Scratch (a b left rule label members ends : List ℕ) : Type 0 where

@@ -15,7 +15,7 @@ ghost use mathlib.Core.Path.{_≡_};
 ghost use Rattle.wire.specs.Turns.{Held};
 ghost use Rattle.update.specs.Calls.{stepCall};
 ghost use Rattle.engine.specs.Lent.{lent, stepped, RunLeaves};
-ghost use Rattle.engine.specs.Order.{Going};
+ghost use Rattle.judging.specs.Order.{Going};
 ghost use Rattle.engine.specs.Prepared.{Scratch, Prepared};
 
 // Fills the arrays of the wiring and of the ranked circles of a sound tree, and says how many circles there are: once for all the steps of an update.

@@ -22,7 +22,7 @@ pub fn rank_circles(
     requires { ⌜ Given n (now a) (now b) × (n ≤ length (now label)) × (n ≤ length (now members)) × (n + 1 ≤ length (now ends)) ⌝ }
     ensures { λ r. ⌜ Laid (graphOf n (now (a .entry)) (now (b .entry))) (now (label .entry)) (now (members .entry)) (now (ends .entry)) (now (label .exit)) (now (members .exit)) (now (ends .exit)) r ⌝ }
 {
-    // No array is filled with one byte over and over: plain stores then fill it, which are counted alike everywhere.
+    // Marks of two different bytes: an array is then filled by plain stores, and not by one repeated instruction, which counters weigh by the byte or not at all.
     let mut first = [65533u16; 4096];
     let mut next = [1u16; 8192];
     chain_readers(n, a, b, &mut first, &mut next);

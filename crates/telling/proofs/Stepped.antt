@@ -23,7 +23,7 @@ use Rattle.update.specs.Records.{isLoad, shut}
 use Rattle.update.specs.Within.{WithinLimits}
 use Rattle.update.specs.Steps.{Outcome, round, done, Made, survives, changedOf, roundNumber, roundRecord, roundMade, doneMade, dueFrom, stepOf}
 use Rattle.update.specs.Calls.{said}
-use Rattle.steps.specs.Arranged.{circlesIn, Circles}
+use Rattle.rounds.specs.Arranged.{circlesIn, Circles}
 use Rattle.telling.specs.Telling.{Printable}
 
 -- ---- what stays in the record

@@ -22,7 +22,7 @@ use Rattle.update.specs.Refusals.{heldRefusal}
 use Rattle.update.specs.Within.{WithinLimits}
 use Rattle.update.specs.Steps.{Outcome, round, done, Made, stepOf}
 use Rattle.update.specs.Calls.{Said, said, answerSays, Left, withSets, stepCall}
-use Rattle.steps.specs.Arranged.{circlesIn}
+use Rattle.rounds.specs.Arranged.{circlesIn}
 use Rattle.steps.specs.Says.{StepSays}
 use Rattle.engine.specs.Lent.{lent, stepped}
 use Rattle.judging.specs.Order.{Grounded, Holding, Going}

@@ -14,7 +14,7 @@ ghost use lib.ListN.{length};
 ghost use Rattle.climb.specs.Wired.{Wiring};
 ghost use Rattle.update.specs.Within.{WithinLimits};
 ghost use Rattle.update.specs.Calls.{answerSays};
-ghost use Rattle.steps.specs.Arranged.{Circles, Lent};
+ghost use Rattle.rounds.specs.Arranged.{Circles, Lent};
 ghost use Rattle.judging.specs.Lent.{lent};
 ghost use Rattle.judging.specs.Order.{Going};
 ghost use Rattle.engine.specs.Prepared.{Scratch};

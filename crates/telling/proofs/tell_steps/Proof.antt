@@ -8,7 +8,7 @@ use Rattle.climb.specs.Wired.{wired}
 use Rattle.update.specs.Within.{WithinLimits}
 use Rattle.update.specs.Steps.{Outcome}
 use Rattle.update.specs.Calls.{Said, answerSays}
-use Rattle.steps.specs.Arranged.{circlesIn}
+use Rattle.rounds.specs.Arranged.{circlesIn}
 use Rattle.steps.proofs.Continuing.{step-within, lent-kept}
 use Rattle.telling.specs.Telling.{Printable}
 use Rattle.telling.proofs.Stepped.{step-fits}
