@@ -8,8 +8,9 @@ use mathlib.Core.List.{List}
 use mathlib.Core.Logic.{inl, inr, dite}
 use lib.ListN.{getD, length, set, length-set, replicate, length-replicate, getD-replicate}
 use lib.Seq.{getD-set-same, getD-set-other}
+use lib.Dec.{eqb}
 use borrow.Author.Tests.{eq-eqb, ne-eqb}
-use Rattle.labels.specs.Search.{Next, Chained, Blank, Linked, off, on, argOf, Arg}
+use Rattle.labels.specs.Search.{Next, Chained, Blank, Linked, off, on, argOf, Arg, Stated}
 
 -- the chains of the places from i on
 pub record Partly (f : ℕ → ℕ) (m n : ℕ) (first next : List ℕ) (i : ℕ) : Type 0 where
@@ -22,7 +23,7 @@ pub record Partly (f : ℕ → ℕ) (m n : ℕ) (first next : List ℕ) (i : ℕ
 module _ (f : ℕ → ℕ) (m n : ℕ) where
   pub partly-none : (first next : List ℕ) → n ≤ 4096 → m ≤ 8192 → Blank n first → m ≤ length next → Partly f m n first next m
   partly-none first next nl ml b l = record {
-    lenf = omega (arith, b .long);
+    lenf = b .long;
     lenn = l;
     small = omega arith;
     start = λ y yl. record {
@@ -100,42 +101,47 @@ module _ (f : ℕ → ℕ) (m n : ℕ) where
   pub partly-all : (first next : List ℕ) (i : ℕ) → i ≡ 0 → Partly f m n first next i → Chained f m n first next
   partly-all first next i z p =
       let q : Partly f m n first next 0 = subst (λ (u : ℕ). Partly f m n first next u) z p in
-      record { start = q .start; step = λ x h₁ h₂. q .step x (omega arith) h₁ h₂ }
+      record { firsts = q .lenf; nexts = q .lenn; start = q .start; step = λ x h₁ h₂. q .step x (omega arith) h₁ h₂ }
 
 -- ---- the row of the arguments
 
-pub arg-even : (a b : List ℕ) (x e : ℕ) → e ≡ 2 * x → argOf a b e ≡ getD a x 0
-unfolding argOf
-arg-even a b x e h =
-    ap (λ (t : Bool). cond t (getD a (e / 2) 0) (getD b (e / 2) 0)) (eq-eqb (e % 2) 0 (omega arith)) ∙ ap (λ (u : ℕ). getD a u 0) (let q : e / 2 ≡ x = omega arith in q)
+module _ (a b : List ℕ) (x e : ℕ) where
+  -- of a slot that is not declared the row has nothing
+  pub arg-off : getD a x 0 ≡ 65534 → e / 2 ≡ x → argOf a b e ≡ 65534
+  unfolding argOf
+  arg-off d h = ap (λ (t : Bool). cond t 65534 (cond (eqb (e % 2) 0) (getD a (e / 2) 0) (getD b (e / 2) 0))) (eq-eqb (getD a (e / 2) 0) 65534 (ap (λ (u : ℕ). getD a u 0) h ∙ d))
 
-pub arg-odd : (a b : List ℕ) (x e : ℕ) → e ≡ 2 * x + 1 → argOf a b e ≡ getD b x 0
-unfolding argOf
-arg-odd a b x e h =
-    ap (λ (t : Bool). cond t (getD a (e / 2) 0) (getD b (e / 2) 0)) (ne-eqb (e % 2) 0 (λ z. omega arith)) ∙ ap (λ (u : ℕ). getD b u 0) (let q : e / 2 ≡ x = omega arith in q)
+  arg-on : Stated a x → e / 2 ≡ x → argOf a b e ≡ cond (eqb (e % 2) 0) (getD a (e / 2) 0) (getD b (e / 2) 0)
+  unfolding argOf
+  arg-on d h = ap (λ (t : Bool). cond t 65534 (cond (eqb (e % 2) 0) (getD a (e / 2) 0) (getD b (e / 2) 0))) (ne-eqb (getD a (e / 2) 0) 65534 (λ z. d (ap (λ (u : ℕ). getD a u 0) (sym h) ∙ z)))
+
+  pub arg-even : Stated a x → e ≡ 2 * x → argOf a b e ≡ getD a x 0
+  arg-even d h =
+      let q : e / 2 ≡ x = omega arith in
+      arg-on d q ∙ ap (λ (t : Bool). cond t (getD a (e / 2) 0) (getD b (e / 2) 0)) (eq-eqb (e % 2) 0 (omega arith)) ∙ ap (λ (u : ℕ). getD a u 0) q
+
+  pub arg-odd : Stated a x → e ≡ 2 * x + 1 → argOf a b e ≡ getD b x 0
+  arg-odd d h =
+      let q : e / 2 ≡ x = omega arith in
+      arg-on d q ∙ ap (λ (t : Bool). cond t (getD a (e / 2) 0) (getD b (e / 2) 0)) (ne-eqb (e % 2) 0 (λ z. omega arith)) ∙ ap (λ (u : ℕ). getD b u 0) q
 
 -- what the row has at e is an argument of the slot e / 2
-pub arg-of : (n : ℕ) (a b : List ℕ) (e v : ℕ) → e < 2 * n → v < n → argOf a b e ≡ v → Arg n a b (e / 2) v
-arg-of n a b e v el vl h = (
-  omega arith,
-  vl,
-  dite (ℕ-discrete (e % 2) 0)
-      (λ c. inl (sym (arg-even a b (e / 2) e (omega (arith, c))) ∙ h))
-      (λ c. inr (sym (arg-odd a b (e / 2) e (omega (arith, c))) ∙ h)),
-)
+pub arg-of : (n : ℕ) (a b : List ℕ) (e v : ℕ) → n ≤ 4096 → e < 2 * n → v < n → argOf a b e ≡ v → Arg n a b (e / 2) v
+arg-of n a b e v nl el vl h =
+    let d : Stated a (e / 2) = λ z. omega (arith, nl, vl, h, arg-off a b (e / 2) e z refl) in (
+      omega arith,
+      vl,
+      d,
+      dite (ℕ-discrete (e % 2) 0)
+          (λ c. inl (sym (arg-even a b (e / 2) e d (omega (arith, c))) ∙ h))
+          (λ c. inr (sym (arg-odd a b (e / 2) e d (omega (arith, c))) ∙ h)),
+    )
 
 -- what holds at each place of v in the row holds of each slot that reads v
 pub at-readers : (P : ℕ → Type 0) (n : ℕ) (a b : List ℕ) (v : ℕ) → ((e : ℕ) → e < 2 * n → argOf a b e ≡ v → P (e / 2)) → (y : ℕ) → Arg n a b y v → P y
-at-readers P n a b v f y (yl, vl, inl h) = subst P (let q : 2 * y / 2 ≡ y = omega arith in q) (f (2 * y) (omega arith) (arg-even a b y (2 * y) refl ∙ h))
-at-readers P n a b v f y (yl, vl, inr h) = subst P (let q : (2 * y + 1) / 2 ≡ y = omega arith in q) (f (2 * y + 1) (omega arith) (arg-odd a b y (2 * y + 1) refl ∙ h))
+at-readers P n a b v f y (yl, vl, d, inl h) = subst P (let q : 2 * y / 2 ≡ y = omega arith in q) (f (2 * y) (omega arith) (arg-even a b y (2 * y) d refl ∙ h))
+at-readers P n a b v f y (yl, vl, d, inr h) = subst P (let q : (2 * y + 1) / 2 ≡ y = omega arith in q) (f (2 * y + 1) (omega arith) (arg-odd a b y (2 * y + 1) d refl ∙ h))
 
-pub linked-first : {n y e : ℕ} {first next first′ next′ : List ℕ} → Linked n y e first next first′ next′ → length first′ ≡ length first
-linked-first (off h p q) = ap length p
-linked-first {y} {e} {first} (on h p q) = ap length p ∙ length-set first y e
-
-pub linked-next : {n y e : ℕ} {first next first′ next′ : List ℕ} → Linked n y e first next first′ next′ → length next′ ≡ length next
-linked-next (off h p q) = ap length q
-linked-next {y} {e} {first} {next} (on h p q) = ap length q ∙ length-set next e (getD first y 0)
-
-pub blank-new : (n : ℕ) → n ≤ 4096 → Blank n (replicate {A = ℕ} 4096 65533)
-blank-new n h = record { long = length-replicate {A = ℕ} 4096 65533; blank = λ y yl. getD-replicate {A = ℕ} 4096 y 65533 0 (omega arith) }
+-- new memory of k places is blank
+pub blank-new : (n k : ℕ) → n ≤ k → Blank n (replicate {A = ℕ} k 65533)
+blank-new n k h = record { long = omega (arith, h, length-replicate {A = ℕ} k 65533); blank = λ y yl. getD-replicate {A = ℕ} k y 65533 0 (omega arith) }

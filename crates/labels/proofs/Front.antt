@@ -9,14 +9,15 @@ use mathlib.Core.Logic.{_⊎_, inl, inr, ⊎-elim, dite}
 use lib.ListN.{getD, length, set, length-set}
 use lib.Seq.{getD-set-same, getD-set-other}
 use Rattle.circles.specs.Graph.{Path⁺, here, there}
-use Rattle.labels.specs.Search.{stamped, Visited, skipped, added, Clean, Via, Found, Lone}
+use Rattle.labels.specs.Search.{stamped, Visited, skipped, added, Room, Clean, Via, Found, Lone}
 use Rattle.circles.proofs.Paths.{closed}
 use Rattle.labels.proofs.Stamps.{stamped-lt, stamped-set, stamped-le}
 
 -- the marks m and the queue q, of t entries, in a search from x by E through what okay allows, which found the marks m₀
 pub record Front (n : ℕ) (E : ℕ → ℕ → Type 0) (okay : List ℕ) (k x : ℕ) (m₀ m q : List ℕ) (t : ℕ) : Type 0 where
-  pub lenm : length m ≡ 4096
-  pub lenq : length q ≡ 4096
+  pub long : n ≤ length m₀
+  pub lenm : length m ≡ length m₀
+  pub lenq : length m₀ ≤ length q
   pub counted : t ≤ stamped x m
   pub begun : getD m x 0 ≡ x
   pub head : (0 < t) × (getD q 0 0 ≡ x)
@@ -55,8 +56,11 @@ done-kept {E} {okay} {k} {x} {m} hl g d = record {
   all = λ i l z v. g .stays z (d .all i l z (subst (λ (u : ℕ). Via E okay k u z) (g .same i (le-trans l hl)) v));
 }
 
-pub front-le : {n : ℕ} {E : ℕ → ℕ → Type 0} {okay : List ℕ} {k x : ℕ} {m₀ m q : List ℕ} {t : ℕ} → Front n E okay k x m₀ m q t → t ≤ 4096
+pub front-le : {n : ℕ} {E : ℕ → ℕ → Type 0} {okay : List ℕ} {k x : ℕ} {m₀ m q : List ℕ} {t : ℕ} → Front n E okay k x m₀ m q t → t ≤ length m₀
 front-le {x} {m} f = omega (arith, f .counted, f .lenm, stamped-le x m)
+
+pub front-room : {n : ℕ} {E : ℕ → ℕ → Type 0} {okay : List ℕ} {k x : ℕ} {m₀ m q : List ℕ} {t : ℕ} → Front n E okay k x m₀ m q t → Room n x m q t
+front-room f = record { marks = omega (arith, f .long, f .lenm); queue = omega (arith, f .lenm, f .lenq); counted = f .counted }
 
 -- the entry at h is done with too, where all that it steps to is marked
 pub done-more : {E : ℕ → ℕ → Type 0} {okay : List ℕ} {k x : ℕ} {m q : List ℕ} {h : ℕ} (v : ℕ) → getD q h 0 ≡ v → ((z : ℕ) → Via E okay k v z → getD m z 0 ≡ x) → Done E okay k x m q h → Done E okay k x m q (h + 1)
@@ -66,14 +70,14 @@ done-more {E} {okay} {k} {x} {m} {q} {h} v e all d = record {
       (λ c. d .all i (omega (arith, c)) z w);
 }
 
-module _ (n : ℕ) (nl : n ≤ 4096) (E : ℕ → ℕ → Type 0) (okay : List ℕ) (k x : ℕ) (m₀ : List ℕ) where
-  room : (m q : List ℕ) (t y : ℕ) → Front n E okay k x m₀ m q t → y < n → (getD m y 0 ≡ x → ⊥) → t < 4096
-  room m q t y f l ne = omega (arith, f .counted, f .lenm, stamped-lt x m y (omega (arith, f .lenm)) ne)
+module _ (n : ℕ) (E : ℕ → ℕ → Type 0) (okay : List ℕ) (k x : ℕ) (m₀ : List ℕ) where
+  room : (m q : List ℕ) (t y : ℕ) → Front n E okay k x m₀ m q t → y < n → (getD m y 0 ≡ x → ⊥) → t < length m₀
+  room m q t y f l ne = omega (arith, f .counted, f .lenm, stamped-lt x m y (omega (arith, f .lenm, f .long)) ne)
 
   -- the marks and the queue after y is added
   module _ (m q : List ℕ) (t y v : ℕ) (f : Front n E okay k x m₀ m q t) (vl : v < n) (vm : getD m v 0 ≡ x) (yl : y < n) (yk : getD okay y 0 ≡ k) (ne : getD m y 0 ≡ x → ⊥) (e : E v y) where
     at-y : getD (set m y x) y 0 ≡ x
-    at-y = getD-set-same m y x 0 (omega (arith, f .lenm))
+    at-y = getD-set-same m y x 0 (omega (arith, f .lenm, f .long))
 
     at-t : getD (set q t y) t 0 ≡ y
     at-t = getD-set-same q t y 0 (omega (arith, f .lenq, room m q t y f yl ne))
@@ -112,9 +116,10 @@ module _ (n : ℕ) (nl : n ≤ 4096) (E : ℕ → ℕ → Type 0) (okay : List �
     looked-added : Looked n E okay k x m₀ m q t y (set m y x) (set q t y) (t + 1)
     looked-added = record {
       front = record {
+        long = f .long;
         lenm = length-set m y x ∙ f .lenm;
-        lenq = length-set q t y ∙ f .lenq;
-        counted = omega (arith, f .counted, stamped-set x m y (omega (arith, f .lenm)) ne);
+        lenq = omega (arith, length-set q t y, f .lenq);
+        counted = omega (arith, f .counted, stamped-set x m y (omega (arith, f .lenm, f .long)) ne);
         begun = still x (f .begun);
         head = (omega (arith, f .head .0), old 0 (f .head .0) ∙ f .head .1);
         queued = in-queue;
@@ -134,16 +139,17 @@ module _ (n : ℕ) (nl : n ≤ 4096) (E : ℕ → ℕ → Type 0) (okay : List �
       subst₃ (λ m′ q′ r. Looked n E okay k x m₀ m q t y m′ q′ r) (sym em) (sym eq) (sym er) (looked-added m q t y v f vl vm yl yk ne (e yl))
 
   -- the search begins: x alone is marked and queued
-  pub started : (q : List ℕ) → length m₀ ≡ 4096 → length q ≡ 4096 → Clean n x m₀ → Front n E okay k x (set m₀ x x) (set m₀ x x) (set q 0 x) 1
+  pub started : (q : List ℕ) → n ≤ length m₀ → length m₀ ≤ length q → Clean n x m₀ → Front n E okay k x (set m₀ x x) (set m₀ x x) (set q 0 x) 1
   started q lm lq cl =
       let xl : x < length m₀ = omega (arith, cl .small) in
       let at-x : getD (set m₀ x x) x 0 ≡ x = getD-set-same m₀ x x 0 xl in
-      let at-0 : getD (set q 0 x) 0 0 ≡ x = getD-set-same q 0 x 0 (omega arith) in
+      let at-0 : getD (set q 0 x) 0 0 ≡ x = getD-set-same q 0 x 0 (omega (arith, xl)) in
       let is-x : (y : ℕ) → y < n → getD (set m₀ x x) y 0 ≡ x → y ≡ x =
       λ y yl h. dite (ℕ-discrete y x) (λ c. c) (λ c. absurd (cl .none y yl (sym (getD-set-other m₀ x y x 0 c) ∙ h))) in
       record {
-        lenm = length-set m₀ x x ∙ lm;
-        lenq = length-set q 0 x ∙ lq;
+        long = omega (arith, length-set m₀ x x, lm);
+        lenm = refl;
+        lenq = omega (arith, length-set m₀ x x, length-set q 0 x, lq);
         counted = omega (arith, stamped-set x m₀ x xl (cl .none x (cl .small)));
         begun = at-x;
         head = (omega arith, at-0);
@@ -157,7 +163,6 @@ module _ (n : ℕ) (nl : n ≤ 4096) (E : ℕ → ℕ → Type 0) (okay : List �
   -- the search ends: the whole queue is done with
   pub ended : (m q : List ℕ) (h t : ℕ) → x < n → ((u v : ℕ) → E u v → v < n) → Front n E okay k x m₀ m q t → Done E okay k x m q h → t ≤ h → Found n E okay k x m₀ m
   ended m q h t xl below f d l = record {
-    long = f .lenm;
     sound = f .sound;
     complete = λ y p. closed (λ z. (z < n) × (getD m z 0 ≡ x)) (xl, f .begun)
         (λ u z w e. let i = f .marked u (w .0) (w .1) in
@@ -169,7 +174,6 @@ module _ (n : ℕ) (nl : n ≤ 4096) (E : ℕ → ℕ → Type 0) (okay : List �
   -- said of the marks before x was marked
   pub found-before : (m : List ℕ) → Found n E okay k x (set m₀ x x) m → Found n E okay k x m₀ m
   found-before m f = record {
-    long = f .long;
     sound = f .sound;
     complete = f .complete;
     frame = λ y. dite (ℕ-discrete y x)

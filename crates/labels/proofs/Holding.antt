@@ -8,11 +8,12 @@ use mathlib.Core.Logic.{_⊎_, inl, inr, ⊎-elim}
 use lib.ListN.{length, getD}
 use lib.Dec.{eqb, ltb}
 use borrow.Author.Tests.{eq-eqb, ne-eqb, eqb-true, eqb-false, lt-ltb, le-ltb, ltb-true, ltb-false}
-use Rattle.circles.specs.Graph.{Graph, Reads, Reaches, Together, Path⁺, _∈_}
+use Rattle.circles.specs.Graph.{Graph, Reads, Reaches, Together, Path⁺, here, there, Closed, _∈_}
 use Rattle.circles.specs.Arrays.{given, graphOf}
-use Rattle.labels.specs.Search.{Arg}
+use Rattle.labels.specs.Search.{Arg, Stated}
 use Rattle.labels.specs.Labels.{Round}
 use Rattle.circles.proofs.Paths.{mapped}
+use Rattle.circles.proofs.Least.{reached-declared}
 use Rattle.circles.proofs.Lists.{and-parts, and-of, not-was, not-of, not-true-false}
 
 -- within a list the default doesn't matter
@@ -63,19 +64,25 @@ module _ (n : ℕ) (a b : List ℕ) (la : n ≤ length a) (lb : n ≤ length b) 
       (h, λ q. eqb-false (getD a x 65534) 65534 (not-was _ (p .1)) (at-a x h ∙ q))
 
   pub arg-reads : (x y : ℕ) → Arg n a b x y → Reads (graphOf n a b) x y
-  arg-reads x y (xl, yl, h) = record {
+  arg-reads x y (xl, yl, d, h) = record {
     from = xl;
     to = yl;
     argument = of-given n (getD a x 65534) (getD b x 65534) y yl (⊎-elim (λ e. inl (at-a x xl ∙ e)) (λ e. inr (at-b x xl ∙ e)) h);
   }
 
-  pub reads-arg : (x y : ℕ) → Reads (graphOf n a b) x y → Arg n a b x y
-  reads-arg x y r =
+  pub reads-arg : (x y : ℕ) → Stated a x → Reads (graphOf n a b) x y → Arg n a b x y
+  reads-arg x y d r =
       let w = in-given n (getD a x 65534) (getD b x 65534) y (r .argument) in
-      (r .from, r .to, ⊎-elim (λ e. inl (sym (at-a x (r .from)) ∙ e)) (λ e. inr (sym (at-b x (r .from)) ∙ e)) (w .1))
+      (r .from, r .to, d, ⊎-elim (λ e. inl (sym (at-a x (r .from)) ∙ e)) (λ e. inr (sym (at-b x (r .from)) ∙ e)) (w .1))
 
   pub round-together : (x y : ℕ) → Round n a b x y → Together (graphOf n a b) x y
   round-together x y r = (mapped arg-reads (r .0), mapped arg-reads (r .1))
 
-  pub together-round : (x y : ℕ) → Together (graphOf n a b) x y → Round n a b x y
-  together-round x y r = (mapped reads-arg (r .0), mapped reads-arg (r .1))
+  -- where what a declared slot reads is declared, a way from one is a way by arguments
+  module _ (C : Closed (graphOf n a b)) where
+    reaches-args : {x y : ℕ} → graphOf n a b .declared x ≡ true → Reaches (graphOf n a b) x y → Path⁺ (Arg n a b) x y
+    reaches-args d here = here
+    reaches-args d (there p e) = there (reaches-args d p) (reads-arg _ _ (was-declared _ (reached-declared C d p) .1) e)
+
+    pub together-round : (x y : ℕ) → graphOf n a b .declared x ≡ true → Together (graphOf n a b) x y → Round n a b x y
+    together-round x y d r = (reaches-args d (r .0), reaches-args (reached-declared C d (r .0)) (r .1))

@@ -128,7 +128,7 @@ module _ (n : ℕ) (a b rep low after label₀ label : List ℕ) (Q : Given n a 
     within = round-together n a b (Q .long-a) (Q .long-b) x (getD label x 0) (same-round x (getD label x 0) xl (omega (arith, at-most x xl r)) r (sym (rep-label x xl r)));
     least = λ y t. let yl : y < n = end-below (graphOf n a b) xl (t .0) in
         dite (decLt y (getD low (getD rep x 0) 0))
-        (λ d. absurd (C .start (getD rep x 0) r .skip y (omega arith) d yl (R .whole x y xl yl r (together-round n a b (Q .long-a) (Q .long-b) x y t))))
+        (λ d. absurd (C .start (getD rep x 0) r .skip y (omega arith) d yl (R .whole x y xl yl r (together-round n a b (Q .long-a) (Q .long-b) (Q .closed) x y (is-declared n a b (Q .long-a) (Q .long-b) x xl (labelled-stated n a b rep Q R x xl r)) t))))
         (λ d. omega (arith, d, is x xl r));
   }
 
@@ -153,6 +153,7 @@ module _ (n : ℕ) (a b rep low after label₀ label : List ℕ) (Q : Given n a 
   kin = record {
     few = Q .few;
     long = omega (arith, L .long);
+    room = C .nexts;
     own = λ z zl h. let r = has-rep z zl h in
         is (getD label z 0) h (subst (λ (u : ℕ). u < n) (sym (rep-label z zl r)) r) ∙ ap (λ (u : ℕ). getD low u 0) (rep-label z zl r) ∙ sym (is z zl r);
     least = λ z zl h. at-most z zl (has-rep z zl h);

@@ -8,7 +8,7 @@ use native.Mathlib.Decide.{ℕ-discrete}
 use lib.ListN.{getD, length, set, length-set}
 use lib.Seq.{getD-set-same, getD-set-other}
 use Rattle.circles.specs.Graph.{Path⁺, here, there}
-use Rattle.labels.specs.Search.{Arg, Clean, Via, Back, Found, Blank}
+use Rattle.labels.specs.Search.{Arg, Clean, Via, Back, Found, Blank, Stated}
 use Rattle.labels.specs.Labels.{Round, Reps, Stale, Took}
 use Rattle.circles.proofs.Paths.{join, mapped, turned, inside, closed}
 
@@ -16,6 +16,11 @@ use Rattle.circles.proofs.Paths.{join, mapped, turned, inside, closed}
 allowed-end : (E : ℕ → ℕ → Type 0) (okay : List ℕ) (k : ℕ) {x y : ℕ} → getD okay x 0 ≡ k → Path⁺ (Via E okay k) x y → getD okay y 0 ≡ k
 allowed-end E okay k h here = h
 allowed-end E okay k h (there p e) = e .1
+
+-- a way through what is allowed, from a declared slot, leads to declared ones, where what is allowed is declared
+pub way-stated : (n : ℕ) (a b okay : List ℕ) (k : ℕ) {x y : ℕ} → Stated a x → ((z : ℕ) → z < n → getD okay z 0 ≡ k → Stated a z) → Path⁺ (Via (Arg n a b) okay k) x y → Stated a y
+way-stated n a b okay k d f here = d
+way-stated n a b okay k d f (there p e) = f _ (e .0 .1) (e .1)
 
 below : (n : ℕ) (a b : List ℕ) {x y : ℕ} → x < n → Path⁺ (Arg n a b) x y → y < n
 below n a b h here = h
@@ -66,7 +71,6 @@ module _ (n : ℕ) (nl : n ≤ 4096) (a b : List ℕ) where
     found-lone m′ alone =
         let at-x : getD (set r x x) x 0 ≡ x = getD-set-same r x x 0 (omega (arith, R .long)) in
         record {
-          long = length-set r x x ∙ R .long;
           sound = λ y yl h. dite (ℕ-discrete y x)
               (λ c. subst (λ (u : ℕ). Path⁺ (Via (Arg n a b) m′ x) x u) (sym c) here)
               (λ c. absurd (clean-reps .none y yl (sym (getD-set-other r x y x 0 c) ∙ h)));
@@ -76,7 +80,15 @@ module _ (n : ℕ) (nl : n ≤ 4096) (a b : List ℕ) where
               (λ c. inr (getD-set-other r x y x 0 c));
         }
 
-    module _ (m m′ r′ q′ : List ℕ) (S : Stale n m r) (f : Found n (Back (Arg n a b)) r 65533 x m m′) (g : Found n (Arg n a b) m′ x x r r′) (lq : length q′ ≡ 4096) (xd : getD a x 0 ≡ 65534 → ⊥) where
+    -- what gets to a declared slot by reading is declared
+    pub readers-stated : Stated a x → (m m′ : List ℕ) → Found n (Back (Arg n a b)) r 65533 x m m′ → (y : ℕ) → y < n → getD m′ y 0 ≡ x → Stated a y
+    readers-stated xd m m′ f y yl h = back (f .sound y yl h)
+      where
+        back : {z : ℕ} → Path⁺ (Via (Back (Arg n a b)) r 65533) x z → Stated a z
+        back here = xd
+        back (there p e) = e .0 .2
+
+    module _ (m m′ r′ : List ℕ) (S : Stale n m r) (f : Found n (Back (Arg n a b)) r 65533 x m m′) (g : Found n (Arg n a b) m′ x x r r′) (lr : n ≤ length r′) (lm : n ≤ length m′) (xd : Stated a x) where
       sound : (y : ℕ) → y < n → getD r′ y 0 ≡ x → Round n a b x y
       sound y yl h =
           let p : Path⁺ (Via (Arg n a b) m′ x) x y = g .sound y yl h in
@@ -94,10 +106,10 @@ module _ (n : ℕ) (nl : n ≤ 4096) (a b : List ℕ) where
       still : (y : ℕ) → getD r y 0 < n → getD r′ y 0 < n
       still y h = ⊎-elim (λ u. omega arith) (λ u. omega arith) (g .frame y)
 
-      pub took : Took n a b x r r′ m′ q′
+      pub took : Took n a b x r r′ m′
       took = record {
         reps = record {
-          long = g .long;
+          long = lr;
           own = λ y yl. ⊎-elim
               (λ h. inr (omega arith, subst (λ (v : ℕ). Round n a b v y) (sym h) (sound y yl h)))
               (λ h. subst (λ (v : ℕ). (v ≡ 65533) ⊎ ((v < n) × Round n a b v y)) (sym h) (R .own y yl))
@@ -115,13 +127,12 @@ module _ (n : ℕ) (nl : n ≤ 4096) (a b : List ℕ) where
               (g .frame y);
         };
         stale = record {
-          long = f .long;
+          long = lm;
           used = λ y yl h. ⊎-elim
               (λ u. let w : getD r′ x 0 ≡ x = complete x (here, here) in omega (arith, ap (λ (v : ℕ). getD r′ v 0) u))
               (λ u. still _ (subst (λ (v : ℕ). getD r v 0 < n) (sym u) (S .used y yl (omega arith))))
               (f .frame y);
         };
-        room = lq;
         kept = still;
         here = λ _ _. let w : getD r′ x 0 ≡ x = complete x (here, here) in omega arith;
       }

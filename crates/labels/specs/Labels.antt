@@ -13,21 +13,20 @@ Round n a b x y = Path⁺ (Arg n a b) x y × Path⁺ (Arg n a b) y x
 
 -- each slot is labelled by one of its circle or by none, 65533; a circle is labelled whole, and from a declared slot
 pub record Reps (n : ℕ) (a b r : List ℕ) : Type 0 where
-  pub long : length r ≡ 4096
+  pub long : n ≤ length r
   pub own : (y : ℕ) → y < n → (getD r y 0 ≡ 65533) ⊎ ((getD r y 0 < n) × Round n a b (getD r y 0) y)
   pub whole : (y z : ℕ) → y < n → z < n → getD r y 0 < n → Round n a b y z → getD r z 0 ≡ getD r y 0
   pub stated : (y : ℕ) → y < n → getD r y 0 < n → getD a (getD r y 0) 0 ≡ 65534 → ⊥
 
 -- each mark is none or a labelled slot
 pub record Stale (n : ℕ) (m r : List ℕ) : Type 0 where
-  pub long : length m ≡ 4096
+  pub long : n ≤ length m
   pub used : (y : ℕ) → y < n → getD m y 0 < n → getD r (getD m y 0) 0 < n
 
 -- from the labels r to the labels r′, of which x is one where it is declared
-pub record Took (n : ℕ) (a b : List ℕ) (x : ℕ) (r r′ m′ q′ : List ℕ) : Type 0 where
+pub record Took (n : ℕ) (a b : List ℕ) (x : ℕ) (r r′ m′ : List ℕ) : Type 0 where
   pub reps : Reps n a b r′
   pub stale : Stale n m′ r′
-  pub room : length q′ ≡ 4096
   pub kept : (y : ℕ) → getD r y 0 < n → getD r′ y 0 < n
   pub here : x < n → (getD a x 0 ≡ 65534 → ⊥) → getD r′ x 0 < n
 
@@ -61,6 +60,7 @@ pub record Lowered (n : ℕ) (rep low label₀ label : List ℕ) : Type 0 where
 pub record Kin (n : ℕ) (label after : List ℕ) : Type 0 where
   pub few : n ≤ 4096
   pub long : n ≤ length label
+  pub room : n ≤ length after
   pub own : (z : ℕ) → z < n → getD label z 0 < n → getD label (getD label z 0) 0 ≡ getD label z 0
   pub least : (z : ℕ) → z < n → getD label z 0 < n → getD label z 0 ≤ z
   pub next : (x : ℕ) → x < n → getD label x 0 < n → Next (placeOf label) n (getD label x 0) (x + 1) (getD after x 0)

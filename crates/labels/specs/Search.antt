@@ -8,15 +8,19 @@ use lib.ListN.{getD, set, length}
 use lib.Dec.{eqb}
 use Rattle.circles.specs.Graph.{Path⁺}
 
--- y is one of the two that slot x holds; a number past the slots is none
+-- y is declared
+abbrev pub Stated : List ℕ → ℕ → Type 0
+Stated a y = getD a y 0 ≡ 65534 → ⊥
+
+-- y is one of the two that the declared slot x holds; a number past the slots is none
 abbrev pub Arg : ℕ → List ℕ → List ℕ → ℕ → ℕ → Type 0
-Arg n a b x y = (x < n) × (y < n) × ((getD a x 0 ≡ y) ⊎ (getD b x 0 ≡ y))
+Arg n a b x y = (x < n) × (y < n) × Stated a x × ((getD a x 0 ≡ y) ⊎ (getD b x 0 ≡ y))
 
 -- ---- chains of the places at which a function has a value
 
--- the arguments in one row: slot x has the places 2 x, for a, and 2 x + 1, for b
+-- the arguments in one row: slot x has the places 2 x, for a, and 2 x + 1, for b; one that is not declared has none at either
 unfoldable pub argOf : List ℕ → List ℕ → ℕ → ℕ
-argOf a b e = cond (eqb (e % 2) 0) (getD a (e / 2) 0) (getD b (e / 2) 0)
+argOf a b e = cond (eqb (getD a (e / 2) 0) 65534) 65534 (cond (eqb (e % 2) 0) (getD a (e / 2) 0) (getD b (e / 2) 0))
 
 abbrev pub placeOf : List ℕ → ℕ → ℕ
 placeOf l x = getD l x 0
@@ -29,6 +33,8 @@ pub record Next (f : ℕ → ℕ) (m y k e : ℕ) : Type 0 where
 
 -- for each y below n, the places at which f has y are a chain from first[y] by next, rising
 pub record Chained (f : ℕ → ℕ) (m n : ℕ) (first next : List ℕ) : Type 0 where
+  pub firsts : n ≤ length first
+  pub nexts : m ≤ length next
   pub start : (y : ℕ) → y < n → Next f m y 0 (getD first y 0)
   pub step : (x : ℕ) → x < m → f x < n → Next f m (f x) (x + 1) (getD next x 0)
 
@@ -39,14 +45,10 @@ pub data Linked (n y e : ℕ) (first next first′ next′ : List ℕ) : Type 0 
 
 -- the first n are none, 65533
 pub record Blank (n : ℕ) (l : List ℕ) : Type 0 where
-  pub long : length l ≡ 4096
+  pub long : n ≤ length l
   pub blank : (y : ℕ) → y < n → getD l y 0 ≡ 65533
 
 -- ---- the list of the slots of a kind
-
--- y is declared
-abbrev pub Stated : List ℕ → ℕ → Type 0
-Stated a y = getD a y 0 ≡ 65534 → ⊥
 
 -- y has a number of a slot
 abbrev pub Marked : ℕ → List ℕ → ℕ → Type 0
@@ -55,6 +57,7 @@ Marked n l y = getD l y 0 < n
 -- the first d of the list are the slots below n of which P holds, rising
 pub record Roll (P : ℕ → Type 0) (n : ℕ) (slots : List ℕ) (d : ℕ) : Type 0 where
   pub few : d ≤ n
+  pub long : d ≤ length slots
   pub within : (k : ℕ) → k < d → getD slots k 0 < n
   pub is : (k : ℕ) → k < d → P (getD slots k 0)
   pub rises : (j k : ℕ) → j < k → k < d → getD slots j 0 < getD slots k 0
@@ -73,9 +76,9 @@ pub data Visited (n y x : ℕ) (okay : List ℕ) (k : ℕ) (m q m′ q′ : List
   added : y < n → getD okay y 0 ≡ k → (getD m y 0 ≡ x → ⊥) → m′ ≡ set m y x → q′ ≡ set q t y → r ≡ t + 1 → Visited n y x okay k m q m′ q′ t r
 
 -- there is room for marks and queue, and for one more in the queue while a mark is not x
-pub record Room (x : ℕ) (m q : List ℕ) (t : ℕ) : Type 0 where
-  pub marks : length m ≡ 4096
-  pub queue : length q ≡ 4096
+pub record Room (n x : ℕ) (m q : List ℕ) (t : ℕ) : Type 0 where
+  pub marks : n ≤ length m
+  pub queue : length m ≤ length q
   pub counted : t ≤ stamped x m
 
 -- x is a slot, and no mark is x
@@ -93,7 +96,6 @@ Via E okay k u v = E u v × (getD okay v 0 ≡ k)
 
 -- the marks m′ have x at just what x gets to by such steps, and are elsewhere as they were
 pub record Found (n : ℕ) (E : ℕ → ℕ → Type 0) (okay : List ℕ) (k x : ℕ) (m m′ : List ℕ) : Type 0 where
-  pub long : length m′ ≡ 4096
   pub sound : (y : ℕ) → y < n → getD m′ y 0 ≡ x → Path⁺ (Via E okay k) x y
   pub complete : (y : ℕ) → Path⁺ (Via E okay k) x y → getD m′ y 0 ≡ x
   pub frame : (y : ℕ) → (getD m′ y 0 ≡ x) ⊎ (getD m′ y 0 ≡ getD m y 0)
@@ -111,4 +113,4 @@ pub data Looks (n : ℕ) (P : ℕ → Type 0) (x : ℕ) (okay : List ℕ) (k : �
 pub record Swept (n : ℕ) (a b : List ℕ) (v x : ℕ) (okay : List ℕ) (k : ℕ) (m q m′ q′ : List ℕ) (t r : ℕ) : Type 0 where
   pub looks : Looks n (Back (Arg n a b) v) x okay k m q t m′ q′ r
   pub all : (y : ℕ) → Arg n a b y v → getD okay y 0 ≡ k → getD m′ y 0 ≡ x
-  pub room : Room x m′ q′ r
+  pub room : Room n x m′ q′ r

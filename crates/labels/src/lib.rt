@@ -2,6 +2,5 @@
 mod order;
 mod search;
 
-pub use search::chain_readers;
 pub use search::circle_labels;
 pub use search::wide;

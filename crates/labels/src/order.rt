@@ -5,8 +5,8 @@ ghost use Rattle.labels.specs.Search.{Stated, Roll};
 use crate::search::wide;
 
 // The argument of v in x, where the walk is at the stage that looks at it and comes to it for the first time; else 65535. stage: 4 before the walk comes to a slot, then 1, 2 and 3 as its arguments are looked at.
-fn come_to(n: usize, x: &[u16; 4096], v: usize, at: u16, stage: &mut [u16; 4096]) -> u16
-    requires { ⌜ (v < n) × (n ≤ 4096) × (at < 3) ⌝ }
+fn come_to(n: usize, x: &[u16; 4096], v: usize, at: u16, stage: &mut [u16]) -> u16
+    requires { ⌜ (v < n) × (n ≤ 4096) × (n ≤ length (now stage)) × (at < 3) ⌝ }
 {
     if stage[v] != at {
         return 65535;
@@ -25,8 +25,8 @@ fn come_to(n: usize, x: &[u16; 4096], v: usize, at: u16, stage: &mut [u16; 4096]
 }
 
 // The next argument of v that the walk comes to, or 65535.
-fn unseen(n: usize, a: &[u16; 4096], b: &[u16; 4096], v: usize, stage: &mut [u16; 4096]) -> u16
-    requires { ⌜ (v < n) × (n ≤ 4096) ⌝ }
+fn unseen(n: usize, a: &[u16; 4096], b: &[u16; 4096], v: usize, stage: &mut [u16]) -> u16
+    requires { ⌜ (v < n) × (n ≤ 4096) × (n ≤ length (now stage)) ⌝ }
 {
     let y = come_to(n, a, v, 1, stage);
     if y != 65535 {
@@ -42,12 +42,12 @@ fn walk(
     b: &[u16; 4096],
     root: usize,
     from: usize,
-    order: &mut [u16; 4096],
-    stack: &mut [u16; 4096],
-    stage: &mut [u16; 4096],
+    order: &mut [u16],
+    stack: &mut [u16],
+    stage: &mut [u16],
 ) -> usize
-    requires { ⌜ (root < n) × (n ≤ 4096) × (from ≤ n) × (length (now stack) ≡ 4096) × (length (now order) ≡ 4096) ⌝ }
-    ensures { λ r. ⌜ (r ≤ n) × (length (now (stack .exit)) ≡ 4096) × (length (now (order .exit)) ≡ 4096) ⌝ }
+    requires { ⌜ (root < n) × (n ≤ 4096) × (from ≤ n) × (n ≤ length (now order)) × (n ≤ length (now stack)) × (n ≤ length (now stage)) ⌝ }
+    ensures { λ r. ⌜ r ≤ n ⌝ }
 {
     stage[root] = 1;
     stack[0] = root as u16;
@@ -96,15 +96,14 @@ fn walk_new(
     root: usize,
     from: usize,
     count: usize,
-    slots: &mut [u16; 4096],
-    order: &mut [u16; 4096],
-    stack: &mut [u16; 4096],
-    stage: &mut [u16; 4096],
+    slots: &mut [u16],
+    order: &mut [u16],
+    stack: &mut [u16],
+    stage: &mut [u16],
 ) -> Walked
-    requires { ⌜ (root < n) × (n ≤ 4096) × (from ≤ n) × (length (now order) ≡ 4096) × (length (now stack) ≡ 4096) ⌝ }
-    requires { ⌜ (length (now slots) ≡ 4096) × Roll (Stated (now a)) root (now slots) count ⌝ }
-    ensures { λ r. ⌜ (r .from ≤ n) × (length (now (order .exit)) ≡ 4096) × (length (now (stack .exit)) ≡ 4096) ⌝ }
-    ensures { λ r. ⌜ (length (now (slots .exit)) ≡ 4096) × Roll (Stated (now (a .entry))) (root + 1) (now (slots .exit)) (r .count) ⌝ }
+    requires { ⌜ (root < n) × (n ≤ 4096) × (from ≤ n) × (n ≤ length (now order)) × (n ≤ length (now stack)) × (n ≤ length (now stage)) ⌝ }
+    requires { ⌜ (n ≤ length (now slots)) × Roll (Stated (now a)) root (now slots) count ⌝ }
+    ensures { λ r. ⌜ (r .from ≤ n) × Roll (Stated (now (a .entry))) (root + 1) (now (slots .exit)) (r .count) ⌝ }
 {
     if a[root] == 65534 {
         return Walked {
@@ -131,13 +130,13 @@ pub fn leaving_order(
     n: usize,
     a: &[u16; 4096],
     b: &[u16; 4096],
-    slots: &mut [u16; 4096],
-    order: &mut [u16; 4096],
-    stack: &mut [u16; 4096],
-    stage: &mut [u16; 4096],
+    slots: &mut [u16],
+    order: &mut [u16],
+    stack: &mut [u16],
+    stage: &mut [u16],
 ) -> Walked
-    requires { ⌜ (n ≤ 4096) × (length (now order) ≡ 4096) × (length (now stack) ≡ 4096) × (length (now slots) ≡ 4096) ⌝ }
-    ensures { λ r. ⌜ (length (now (order .exit)) ≡ 4096) × (length (now (stack .exit)) ≡ 4096) × Roll (Stated (now (a .entry))) n (now (slots .exit)) (r .count) ⌝ }
+    requires { ⌜ (n ≤ 4096) × (n ≤ length (now slots)) × (n ≤ length (now order)) × (n ≤ length (now stack)) × (n ≤ length (now stage)) ⌝ }
+    ensures { λ r. ⌜ Roll (Stated (now (a .entry))) n (now (slots .exit)) (r .count) ⌝ }
 {
     let mut at = n;
     let mut count: usize = 0;

@@ -25,20 +25,23 @@ fn link(n: usize, y: u16, e: usize, first: &mut [u16], next: &mut [u16])
     }
 }
 
-// Chains what reads each slot, by its places among the arguments.
-pub fn chain_readers(
+// Chains what reads each slot, by its places among the arguments and the list of the declared slots.
+fn chain_readers(
     n: usize,
     a: &[u16; 4096],
     b: &[u16; 4096],
+    count: usize,
+    slots: &[u16],
     first: &mut [u16],
     next: &mut [u16],
 )
-    requires { ⌜ (n ≤ 4096) × Blank n (now first) × (2 * n ≤ length (now next)) ⌝ }
+    requires { ⌜ (n ≤ 4096) × Roll (Stated (now a)) n (now slots) count × Blank n (now first) × (2 * n ≤ length (now next)) ⌝ }
     ensures { λ _. ⌜ Chained (argOf (now (a .entry)) (now (b .entry))) (2 * n) n (now (first .exit)) (now (next .exit)) ⌝ }
 {
-    let mut x = n;
-    while 0 < x {
-        x -= 1;
+    let mut k = count;
+    while 0 < k {
+        k -= 1;
+        let x = wide(slots[k]);
         link(n, b[x], 2 * x + 1, first, next);
         link(n, a[x], 2 * x, first, next);
     }
@@ -48,12 +51,12 @@ pub fn chain_readers(
 fn chain_members(
     n: usize,
     count: usize,
-    slots: &[u16; 4096],
-    rep: &[u16; 4096],
+    slots: &[u16],
+    rep: &[u16],
     low: &mut [u16],
     after: &mut [u16],
 )
-    requires { ⌜ (n ≤ 4096) × Blank n (now low) × (n ≤ length (now after)) × Roll (Marked n (now rep)) n (now slots) count ⌝ }
+    requires { ⌜ (n ≤ 4096) × (n ≤ length (now rep)) × Roll (Marked n (now rep)) n (now slots) count × Blank n (now low) × (n ≤ length (now after)) ⌝ }
     ensures { λ _. ⌜ Chained (placeOf (now (rep .entry))) n n (now (low .exit)) (now (after .exit)) ⌝ }
 {
     let mut k = count;
@@ -69,13 +72,13 @@ fn look(
     n: usize,
     y: u16,
     x: u16,
-    okay: &[u16; 4096],
+    okay: &[u16],
     k: u16,
-    mark: &mut [u16; 4096],
-    queue: &mut [u16; 4096],
+    mark: &mut [u16],
+    queue: &mut [u16],
     tail: usize,
 ) -> usize
-    requires { ⌜ (y < n) × (n ≤ 4096) × Room x (now mark) (now queue) tail ⌝ }
+    requires { ⌜ (y < n) × (n ≤ 4096) × (n ≤ length (now okay)) × Room n x (now mark) (now queue) tail ⌝ }
     ensures { λ r. ⌜ Visited n y x (now (okay .entry)) k (now (mark .entry)) (now (queue .entry)) (now (mark .exit)) (now (queue .exit)) tail r ⌝ }
 {
     let i = y as usize;
@@ -95,13 +98,13 @@ fn visit(
     n: usize,
     y: u16,
     x: u16,
-    okay: &[u16; 4096],
+    okay: &[u16],
     k: u16,
-    mark: &mut [u16; 4096],
-    queue: &mut [u16; 4096],
+    mark: &mut [u16],
+    queue: &mut [u16],
     tail: usize,
 ) -> usize
-    requires { ⌜ (n ≤ 4096) × Room x (now mark) (now queue) tail ⌝ }
+    requires { ⌜ (n ≤ 4096) × (n ≤ length (now okay)) × Room n x (now mark) (now queue) tail ⌝ }
     ensures { λ r. ⌜ Visited n y x (now (okay .entry)) k (now (mark .entry)) (now (queue .entry)) (now (mark .exit)) (now (queue .exit)) tail r ⌝ }
 {
     let i = y as usize;
@@ -117,13 +120,14 @@ fn mark_reads(
     a: &[u16; 4096],
     b: &[u16; 4096],
     x: u16,
-    okay: &[u16; 4096],
+    okay: &[u16],
     k: u16,
-    mark: &mut [u16; 4096],
-    queue: &mut [u16; 4096],
+    mark: &mut [u16],
+    queue: &mut [u16],
 )
-    requires { ⌜ (n ≤ 4096) × Clean n x (now mark) × (length (now mark) ≡ 4096) × (length (now queue) ≡ 4096) ⌝ }
-    ensures { λ _. ⌜ Found n (Arg n (now (a .entry)) (now (b .entry))) (now (okay .entry)) k x (now (mark .entry)) (now (mark .exit)) × (length (now (queue .exit)) ≡ 4096) ⌝ }
+    requires { ⌜ (n ≤ 4096) × (n ≤ length (now okay)) × Clean n x (now mark) × (n ≤ length (now mark)) × (length (now mark) ≤ length (now queue)) ⌝ }
+    requires { ⌜ Stated (now a) x × ((y : ℕ) → y < n → getD (now okay) y 0 ≡ k → Stated (now a) y) ⌝ }
+    ensures { λ _. ⌜ Found n (Arg n (now (a .entry)) (now (b .entry))) (now (okay .entry)) k x (now (mark .entry)) (now (mark .exit)) ⌝ }
 {
     mark[x as usize] = x;
     queue[0] = x;
@@ -142,17 +146,17 @@ fn sweep(
     n: usize,
     a: &[u16; 4096],
     b: &[u16; 4096],
-    first: &[u16; 4096],
-    next: &[u16; 8192],
+    first: &[u16],
+    next: &[u16],
     v: usize,
     x: u16,
-    okay: &[u16; 4096],
+    okay: &[u16],
     k: u16,
-    mark: &mut [u16; 4096],
-    queue: &mut [u16; 4096],
+    mark: &mut [u16],
+    queue: &mut [u16],
     tail: usize,
 ) -> usize
-    requires { ⌜ (n ≤ 4096) × (v < n) × Chained (argOf (now a) (now b)) (2 * n) n (now first) (now next) × Room x (now mark) (now queue) tail ⌝ }
+    requires { ⌜ (n ≤ 4096) × (v < n) × Chained (argOf (now a) (now b)) (2 * n) n (now first) (now next) × (n ≤ length (now okay)) × Room n x (now mark) (now queue) tail ⌝ }
     ensures { λ r. ⌜ Swept n (now (a .entry)) (now (b .entry)) v x (now (okay .entry)) k (now (mark .entry)) (now (queue .entry)) (now (mark .exit)) (now (queue .exit)) tail r ⌝ }
 {
     let mut t = tail;
@@ -169,16 +173,17 @@ fn mark_readers(
     n: usize,
     a: &[u16; 4096],
     b: &[u16; 4096],
-    first: &[u16; 4096],
-    next: &[u16; 8192],
+    first: &[u16],
+    next: &[u16],
     x: u16,
-    okay: &[u16; 4096],
+    okay: &[u16],
     k: u16,
-    mark: &mut [u16; 4096],
-    queue: &mut [u16; 4096],
+    mark: &mut [u16],
+    queue: &mut [u16],
 ) -> usize
-    requires { ⌜ (n ≤ 4096) × Clean n x (now mark) × (length (now mark) ≡ 4096) × (length (now queue) ≡ 4096) × Chained (argOf (now a) (now b)) (2 * n) n (now first) (now next) ⌝ }
-    ensures { λ r. ⌜ Found n (Back (Arg n (now (a .entry)) (now (b .entry)))) (now (okay .entry)) k x (now (mark .entry)) (now (mark .exit)) × (length (now (queue .exit)) ≡ 4096) × Lone n x (now (mark .exit)) r ⌝ }
+    requires { ⌜ (n ≤ 4096) × (n ≤ length (now okay)) × Clean n x (now mark) × (n ≤ length (now mark)) × (length (now mark) ≤ length (now queue)) ⌝ }
+    requires { ⌜ Chained (argOf (now a) (now b)) (2 * n) n (now first) (now next) ⌝ }
+    ensures { λ r. ⌜ Found n (Back (Arg n (now (a .entry)) (now (b .entry)))) (now (okay .entry)) k x (now (mark .entry)) (now (mark .exit)) × Lone n x (now (mark .exit)) r ⌝ }
 {
     mark[x as usize] = x;
     queue[0] = x;
@@ -209,17 +214,17 @@ fn take_circle(
     n: usize,
     a: &[u16; 4096],
     b: &[u16; 4096],
-    first: &[u16; 4096],
-    next: &[u16; 8192],
+    first: &[u16],
+    next: &[u16],
     x: u16,
-    rep: &mut [u16; 4096],
-    seen: &mut [u16; 4096],
-    queue: &mut [u16; 4096],
+    rep: &mut [u16],
+    seen: &mut [u16],
+    queue: &mut [u16],
 )
     requires { ⌜ (n ≤ 4096) × Chained (argOf (now a) (now b)) (2 * n) n (now first) (now next) ⌝ }
-    requires { ⌜ Reps n (now a) (now b) (now rep) × Stale n (now seen) (now rep) × (length (now queue) ≡ 4096) ⌝ }
+    requires { ⌜ Reps n (now a) (now b) (now rep) × Stale n (now seen) (now rep) × (length (now rep) ≤ length (now queue)) × (length (now seen) ≤ length (now queue)) ⌝ }
     requires { ⌜ (x < n) × (getD (now rep) x 0 ≡ 65533) × (getD (now a) x 0 ≡ 65534 → ⊥) ⌝ }
-    ensures { λ _. ⌜ Took n (now (a .entry)) (now (b .entry)) x (now (rep .entry)) (now (rep .exit)) (now (seen .exit)) (now (queue .exit)) ⌝ }
+    ensures { λ _. ⌜ Took n (now (a .entry)) (now (b .entry)) x (now (rep .entry)) (now (rep .exit)) (now (seen .exit)) ⌝ }
 {
     let t = mark_readers(n, a, b, first, next, x, rep, 65533, seen, queue);
     if t == 1 {
@@ -234,16 +239,16 @@ fn try_circle(
     n: usize,
     a: &[u16; 4096],
     b: &[u16; 4096],
-    first: &[u16; 4096],
-    next: &[u16; 8192],
+    first: &[u16],
+    next: &[u16],
     x: u16,
-    rep: &mut [u16; 4096],
-    seen: &mut [u16; 4096],
-    queue: &mut [u16; 4096],
+    rep: &mut [u16],
+    seen: &mut [u16],
+    queue: &mut [u16],
 )
     requires { ⌜ (n ≤ 4096) × Chained (argOf (now a) (now b)) (2 * n) n (now first) (now next) ⌝ }
-    requires { ⌜ Reps n (now a) (now b) (now rep) × Stale n (now seen) (now rep) × (length (now queue) ≡ 4096) ⌝ }
-    ensures { λ _. ⌜ Took n (now (a .entry)) (now (b .entry)) x (now (rep .entry)) (now (rep .exit)) (now (seen .exit)) (now (queue .exit)) ⌝ }
+    requires { ⌜ Reps n (now a) (now b) (now rep) × Stale n (now seen) (now rep) × (length (now rep) ≤ length (now queue)) × (length (now seen) ≤ length (now queue)) ⌝ }
+    ensures { λ _. ⌜ Took n (now (a .entry)) (now (b .entry)) x (now (rep .entry)) (now (rep .exit)) (now (seen .exit)) ⌝ }
 {
     let i = x as usize;
     if n <= i {
@@ -259,8 +264,8 @@ fn try_circle(
 }
 
 // The first place of the list, from the one given on, whose slot has no label, or what is past the end.
-fn unlabelled(count: usize, slots: &[u16; 4096], rep: &[u16; 4096], from: usize) -> usize
-    requires { ⌜ (count ≤ 4096) × (from ≤ count) × ((k : ℕ) → k < count → getD (now slots) k 0 < 4096) ⌝ }
+fn unlabelled(count: usize, slots: &[u16], rep: &[u16], from: usize) -> usize
+    requires { ⌜ (count ≤ length (now slots)) × (from ≤ count) × ((k : ℕ) → k < count → getD (now slots) k 0 < length (now rep)) ⌝ }
     ensures { λ r. ⌜ Unlabelled count (now (slots .entry)) (now (rep .entry)) from r ⌝ }
 {
     let mut i = from;
@@ -284,13 +289,13 @@ struct Seed {
 fn next_seed(
     n: usize,
     count: usize,
-    slots: &[u16; 4096],
-    order: &[u16; 4096],
-    rep: &[u16; 4096],
+    slots: &[u16],
+    order: &[u16],
+    rep: &[u16],
     i: usize,
     j: usize,
 ) -> Seed
-    requires { ⌜ (n ≤ 4096) × (count ≤ 4096) × (j < count) × ((k : ℕ) → k < count → getD (now slots) k 0 < 4096) ⌝ }
+    requires { ⌜ (n ≤ 4096) × (n ≤ length (now order)) × (count ≤ length (now slots)) × (j < count) × ((k : ℕ) → k < count → getD (now slots) k 0 < length (now rep)) ⌝ }
     ensures { λ r. ⌜ Seeded n count (now (slots .entry)) (now (rep .entry)) i j (r .x) (r .i) (r .j) ⌝ }
 {
     if i < n {
@@ -320,19 +325,20 @@ fn label_circles(
     n: usize,
     a: &[u16; 4096],
     b: &[u16; 4096],
-    first: &[u16; 4096],
-    next: &[u16; 8192],
+    first: &[u16],
+    next: &[u16],
     count: usize,
-    slots: &[u16; 4096],
-    order: &[u16; 4096],
+    slots: &[u16],
+    order: &[u16],
     from: usize,
-    rep: &mut [u16; 4096],
-    seen: &mut [u16; 4096],
-    queue: &mut [u16; 4096],
+    rep: &mut [u16],
+    seen: &mut [u16],
+    queue: &mut [u16],
 )
     requires { ⌜ (n ≤ 4096) × Chained (argOf (now a) (now b)) (2 * n) n (now first) (now next) ⌝ }
-    requires { ⌜ Blank n (now rep) × Blank n (now seen) × (length (now queue) ≡ 4096) × Roll (Stated (now a)) n (now slots) count ⌝ }
-    ensures { λ _. ⌜ Reps n (now (a .entry)) (now (b .entry)) (now (rep .exit)) × ((y : ℕ) → y < n → Stated (now (a .entry)) y → Marked n (now (rep .exit)) y) × (length (now (queue .exit)) ≡ 4096) ⌝ }
+    requires { ⌜ Roll (Stated (now a)) n (now slots) count × (n ≤ length (now order)) ⌝ }
+    requires { ⌜ Blank n (now rep) × Blank n (now seen) × (length (now rep) ≤ length (now queue)) × (length (now seen) ≤ length (now queue)) ⌝ }
+    ensures { λ _. ⌜ Reps n (now (a .entry)) (now (b .entry)) (now (rep .exit)) × ((y : ℕ) → y < n → Stated (now (a .entry)) y → Marked n (now (rep .exit)) y) ⌝ }
 {
     let mut i = from;
     let mut j: usize = 0;
@@ -357,15 +363,8 @@ fn clear(n: usize, label: &mut [u16])
 }
 
 // The least of each one's circle, by the chains of labels and the list of those that have one.
-fn least_labels(
-    n: usize,
-    count: usize,
-    slots: &[u16; 4096],
-    rep: &[u16; 4096],
-    low: &[u16; 4096],
-    label: &mut [u16],
-)
-    requires { ⌜ (n ≤ 4096) × (n ≤ length (now label)) × Roll (Marked n (now rep)) n (now slots) count ⌝ }
+fn least_labels(n: usize, count: usize, slots: &[u16], rep: &[u16], low: &[u16], label: &mut [u16])
+    requires { ⌜ (n ≤ 4096) × (n ≤ length (now label)) × (n ≤ length (now rep)) × (n ≤ length (now low)) × Roll (Marked n (now rep)) n (now slots) count ⌝ }
     requires { ⌜ ((y : ℕ) → y < n → getD (now label) y 0 ≡ 65535) ⌝ }
     ensures { λ _. ⌜ Lowered n (now (rep .entry)) (now (low .entry)) (now (label .entry)) (now (label .exit)) ⌝ }
 {
@@ -377,45 +376,47 @@ fn least_labels(
     }
 }
 
-// The label of each slot's circle, the next member of it, and the list of the slots that have a label: how many they are.
+// The label of each slot's circle, the next member of it, the chains of what reads each slot, and the list of the slots that have a label: how many they are. Stage, rep, seen and low are its own memory.
 pub fn circle_labels(
     n: usize,
     a: &[u16; 4096],
     b: &[u16; 4096],
-    first: &[u16; 4096],
-    next: &[u16; 8192],
-    slots: &mut [u16; 4096],
-    queue: &mut [u16; 4096],
+    first: &mut [u16],
+    next: &mut [u16],
+    slots: &mut [u16],
+    queue: &mut [u16],
+    stage: &mut [u16],
+    rep: &mut [u16],
+    seen: &mut [u16],
+    low: &mut [u16],
     label: &mut [u16],
-    after: &mut [u16; 4096],
+    after: &mut [u16],
 ) -> usize
-    requires { ⌜ Given n (now a) (now b) × (n ≤ length (now label)) × Chained (argOf (now a) (now b)) (2 * n) n (now first) (now next) ⌝ }
-    requires { ⌜ (length (now slots) ≡ 4096) × (length (now queue) ≡ 4096) × (length (now after) ≡ 4096) ⌝ }
+    requires { ⌜ Given n (now a) (now b) × (n ≤ length (now label)) × (n ≤ length (now slots)) × (n ≤ length (now queue)) × (n ≤ length (now stage)) × (n ≤ length (now after)) ⌝ }
+    requires { ⌜ Blank n (now first) × (2 * n ≤ length (now next)) × Blank n (now low) ⌝ }
+    requires { ⌜ Blank n (now rep) × Blank n (now seen) × (length (now rep) ≤ length (now queue)) × (length (now seen) ≤ length (now queue)) ⌝ }
     ensures { λ _. ⌜ (now (label .exit) ≡ over (labelsOf (graphOf n (now (a .entry)) (now (b .entry)))) (now (label .entry))) × Kin n (now (label .exit)) (now (after .exit)) ⌝ }
-    ensures { λ r. ⌜ (length (now (queue .exit)) ≡ 4096) × Roll (Marked n (now (label .exit))) n (now (slots .exit)) r ⌝ }
+    ensures { λ r. ⌜ Chained (argOf (now (a .entry)) (now (b .entry))) (2 * n) n (now (first .exit)) (now (next .exit)) × Roll (Marked n (now (label .exit))) n (now (slots .exit)) r ⌝ }
 {
-    let mut stage = [4u16; 4096];
-    let w = leaving_order(n, a, b, slots, after, queue, &mut stage);
+    let w = leaving_order(n, a, b, slots, after, queue, stage);
     let count = w.count;
-    let mut rep = [65533u16; 4096];
-    let mut seen = [65533u16; 4096];
+    chain_readers(n, a, b, count, &*slots, first, next);
     label_circles(
         n,
         a,
         b,
-        first,
-        next,
+        &*first,
+        &*next,
         count,
         &*slots,
         &*after,
         w.from,
-        &mut rep,
-        &mut seen,
+        rep,
+        seen,
         queue,
     );
-    let mut low = [65533u16; 4096];
-    chain_members(n, count, &*slots, &rep, &mut low, after);
+    chain_members(n, count, &*slots, &*rep, low, after);
     clear(n, label);
-    least_labels(n, count, &*slots, &rep, &low, label);
+    least_labels(n, count, &*slots, &*rep, &*low, label);
     count
 }

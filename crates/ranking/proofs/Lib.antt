@@ -1,5 +1,1 @@
-pub mod Words
-pub mod Cursors
-pub mod Taking
-pub mod Laying
-pub mod Going
+pub mod Fresh

@@ -10,7 +10,7 @@ ghost use lib.ListN.{length};
 ghost use Rattle.circles.specs.Arrays.{Given, graphOf};
 ghost use Rattle.circles.specs.Graph.{Closed};
 ghost use Rattle.circles.specs.Ranked.{ranked};
-ghost use Rattle.ranking.specs.Turns.{Says};
+ghost use Rattle.turns.specs.Turns.{Says};
 ghost use Rattle.ranks.specs.Slots.{Stands, Sure};
 use libc::STDIN_FILENO;
 use libc::STDOUT_FILENO;

@@ -3,7 +3,7 @@ use Rattle.labels.specs.Search.{off, on, Linked}
 use lib.ListN.{getD, set}
 use Prim.Native.Nat.{ℕ}
 use native.Mathlib.Omega.{arith}
-use mathlib.Core.Path.{_≡_, refl, sym, subst}
+use mathlib.Core.Path.{refl, sym, subst}
 use borrow.Author.Needs.{needs}
 use Rattle.labels.proofs.search.link.Statement.{statement}
 use Rattle.labels.proofs.search.link.Tie as tie

@@ -1,24 +1,27 @@
 -- `mark_reads` meets its contract: the search's front, with two looks a turn. Assumes nothing.
-use Prim.Native.Nat.{ℕ, _+_, _-_, _≤_, _<_}
+use Prim.Native.Nat.{ℕ, _+_, _*_, _-_, _≤_, _<_}
 use native.Mathlib.Omega.{arith}
 use native.Mathlib.Nat.{le-refl, le-trans, le-of-lt}
 use mathlib.Core.Path.{_≡_, refl, sym, ap, subst, _∙_}
 use mathlib.Core.List.{List}
 use mathlib.Core.Logic.{inl, inr, ⊎-elim}
-use lib.ListN.{length, getD, set}
+use lib.ListN.{length, getD, set, length-set}
 use borrow.Author.Needs.{needs}
-use Rattle.labels.specs.Search.{Arg}
-use Rattle.labels.specs.Search.{Found, Clean, stamped}
-use Rattle.labels.proofs.Front.{Front, Done, Looked, grew-join, done-kept, looked, started, ended, found-before, front-le, done-more, seen-at}
+use Rattle.labels.specs.Search.{Arg, Stated}
+use Rattle.labels.proofs.Rounds.{way-stated}
+use Rattle.labels.proofs.Front.{Front, Done, Looked, grew-join, done-kept, looked, started, ended, found-before, front-le, front-room, done-more, seen-at}
 use Rattle.labels.proofs.search.mark_reads.Statement.{statement}
 use Rattle.labels.proofs.search.mark_reads.Tie as tie
 
 abbrev Inv-loop : tie.InvT-loop
 Inv-loop n a b x okay k mark₀ queue₀ head₀ tail₀ mark queue head tail =
-    Front n (Arg n a b) okay k x mark₀ mark queue tail × Done (Arg n a b) okay k x mark queue head × (head ≤ tail)
+    Front n (Arg n a b) okay k x mark₀ mark queue tail × Done (Arg n a b) okay k x mark queue head × (head ≤ tail) × (length queue ≡ length queue₀)
 
 abbrev μ-loop : tie.MeasureT-loop
-μ-loop n a b x okay k mark₀ queue₀ head₀ tail₀ mark queue head tail = 4096 - head
+μ-loop n a b x okay k mark₀ queue₀ head₀ tail₀ mark queue head tail = length mark₀ - head
+
+abbrev start : tie.At-loop Inv-loop μ-loop → tie.Start Inv-loop μ-loop
+start c = c .before .before .before .before
 
 abbrev lp : tie.After-wide Inv-loop μ-loop → tie.At-loop Inv-loop μ-loop
 lp c = c .before .before .before
@@ -27,114 +30,106 @@ abbrev wd : tie.After-visit Inv-loop μ-loop → tie.After-wide Inv-loop μ-loop
 wd c = c .before .before .before .before
 
 abbrev v1 : tie.After-visit2 Inv-loop μ-loop → tie.After-visit Inv-loop μ-loop
-v1 c = c .before .before .before .before
+v1 c = c .before .before .before .before .before .before .before .before
 
-mul-mark : tie.Need-mul-mark Inv-loop μ-loop
-mul-mark c = omega (arith, c .fits .x .fits)
-
-element-write-mark : tie.Need-element-write-mark Inv-loop μ-loop
-element-write-mark c = omega (arith, c .pre .0, c .pre .1 .small)
+-- where a turn ends
+abbrev v2 : tie.After-slice-known7 Inv-loop μ-loop → tie.After-visit2 Inv-loop μ-loop
+v2 c = c .before .before .before .before
 
 loop-holds : tie.Need-loop-holds Inv-loop μ-loop
-loop-holds c = (
-  started (c .args .n) (c .pre .0) (Arg (c .args .n) (c .args .a .now) (c .args .b .now)) (c .args .okay .now) (c .args .k) (c .args .x) (c .args .mark .now) (c .args .queue .now) (c .pre .2) (c .pre .3) (c .pre .1),
+loop-holds c = let s = c .before .before .before in let g = s .args in (
+  started (g .n) (Arg (g .n) (g .a .now) (g .b .now)) (g .okay .now) (g .k) (g .x) (g .mark .now) (g .queue .now) (s .pre .0 .3) (s .pre .0 .4) (s .pre .0 .2),
   record { all = λ i l. absurd (omega arith) },
   omega arith,
+  refl,
 )
 
-head-small : (c : tie.In-loop Inv-loop μ-loop) → c .before .loop .head < 4096
-head-small c = omega (arith, c .loop-test .taken, front-le (c .before .loop .inv .0))
+-- there are no more entries than marks
+head-small : (c : tie.In-loop Inv-loop μ-loop) → c .before .loop .head < length (start (c .before) .args .mark .now)
+head-small c = let g = start (c .before) .args in omega (arith, c .loop-test .taken, front-le (c .before .loop .inv .0), length-set (g .mark .now) (g .x) (g .x))
 
-mul-wide : tie.Need-mul-wide Inv-loop μ-loop
-mul-wide c = omega (arith, head-small c)
+scaled : (c : tie.In-loop Inv-loop μ-loop) → c .before .loop .head * 2 < 9223372036854775808
+scaled c = omega (arith, head-small c, start (c .before) .good .1 .1 .1 .1 .1 .1 .0 .1)
 
-element-copy-out-wide : tie.Need-element-copy-out-wide Inv-loop μ-loop
-element-copy-out-wide c = head-small c
+v-small : (c : tie.After-wide Inv-loop μ-loop) → c .wide .result < start (lp c) .args .n
+v-small c = subst (λ (u : ℕ). u < start (lp c) .args .n) (sym (c .wide .ensures)) (lp c .loop .inv .0 .queued (lp c .loop .head) (c .before .before .loop-test .taken) .0)
 
-v-small : (c : tie.After-wide Inv-loop μ-loop) → c .wide .result < lp c .before .args .n
-v-small c = subst (λ (u : ℕ). u < lp c .before .args .n) (sym (c .wide .ensures)) (lp c .loop .inv .0 .queued (lp c .loop .head) (c .before .before .loop-test .taken) .0)
-
-v-marked : (c : tie.After-wide Inv-loop μ-loop) → getD (lp c .loop .mark) (c .wide .result) 0 ≡ lp c .before .args .x
+v-marked : (c : tie.After-wide Inv-loop μ-loop) → getD (lp c .loop .mark) (c .wide .result) 0 ≡ start (lp c) .args .x
 v-marked c = ap (λ (u : ℕ). getD (lp c .loop .mark) u 0) (c .wide .ensures) ∙ lp c .loop .inv .0 .queued (lp c .loop .head) (c .before .before .loop-test .taken) .1
 
-mul-visit : tie.Need-mul-visit Inv-loop μ-loop
-mul-visit c = omega (arith, v-small c, lp c .before .pre .0)
+-- what is in the queue is the start or allowed, so it is declared
+v-stated : (c : tie.After-wide Inv-loop μ-loop) → Stated (start (lp c) .args .a .now) (c .wide .result)
+v-stated c =
+    let s = start (lp c) in
+    let g = s .args in
+    way-stated (g .n) (g .a .now) (g .b .now) (g .okay .now) (g .k) (s .pre .1 .0) (s .pre .1 .1) (lp c .loop .inv .0 .sound (c .wide .result) (v-small c) (v-marked c))
 
-element-copy-out-visit : tie.Need-element-copy-out-visit Inv-loop μ-loop
-element-copy-out-visit c = omega (arith, v-small c, lp c .before .pre .0)
+small : (c : tie.After-wide Inv-loop μ-loop) → c .wide .result < 4096
+small c = omega (arith, v-small c, start (lp c) .pre .0 .0)
 
 visit-requires : tie.Need-visit-requires Inv-loop μ-loop
-visit-requires c κs = let f = lp (c .before .before .before) .loop .inv .0 in (lp (c .before .before .before) .before .pre .0, record { marks = f .lenm; queue = f .lenq; counted = f .counted })
-
-mul-visit-2 : tie.Need-mul-visit-2 Inv-loop μ-loop
-mul-visit-2 c = omega (arith, v-small (wd c), lp (wd c) .before .pre .0)
-
-element-copy-out-visit-2 : tie.Need-element-copy-out-visit-2 Inv-loop μ-loop
-element-copy-out-visit-2 c = omega (arith, v-small (wd c), lp (wd c) .before .pre .0)
+visit-requires c κs = let w = c .before .before .before in let s = start (lp w) in (s .pre .0 .0, s .pre .0 .1, front-room (lp w .loop .inv .0))
 
 -- after the first look
 first : (c : tie.After-visit Inv-loop μ-loop) → (
-    let s = lp (wd c) .before .args in
+    let s = start (lp (wd c)) .args in
     let l = lp (wd c) .loop in
     Looked (s .n) (Arg (s .n) (s .a .now) (s .b .now)) (s .okay .now) (s .k) (s .x) (set (s .mark .now) (s .x) (s .x)) (l .mark) (l .queue) (l .tail) (getD (s .a .now) (wd c .wide .result) 0)
     (c .visit .last .1 .1 .1 .1 .1 .0) (c .visit .last .1 .1 .1 .1 .1 .1 .0) (c .visit .result)
     )
 first c =
-    let s = lp (wd c) .before .args in
+    let s = start (lp (wd c)) .args in
     let l = lp (wd c) .loop in
-    looked (s .n) (lp (wd c) .before .pre .0) (Arg (s .n) (s .a .now) (s .b .now)) (s .okay .now) (s .k) (s .x) (set (s .mark .now) (s .x) (s .x)) (l .mark) (l .queue)
+    looked (s .n) (Arg (s .n) (s .a .now) (s .b .now)) (s .okay .now) (s .k) (s .x) (set (s .mark .now) (s .x) (s .x)) (l .mark) (l .queue)
     (c .visit .last .1 .1 .1 .1 .1 .0) (c .visit .last .1 .1 .1 .1 .1 .1 .0) (l .tail) (c .visit .result) (getD (s .a .now) (wd c .wide .result) 0) (wd c .wide .result)
-    (l .inv .0) (v-small (wd c)) (v-marked (wd c)) (λ yl. (v-small (wd c), yl, inl refl)) (c .visit .ensures)
+    (l .inv .0) (v-small (wd c)) (v-marked (wd c)) (λ yl. (v-small (wd c), yl, v-stated (wd c), inl refl)) (c .visit .ensures)
 
 visit-requires-2 : tie.Need-visit-requires-2 Inv-loop μ-loop
-visit-requires-2 c κs = let f = first (c .before .before .before) .front in (lp (wd (c .before .before .before)) .before .pre .0, record { marks = f .lenm; queue = f .lenq; counted = f .counted })
+visit-requires-2 c κs = let d = c .before .before .before .before .before .before .before in let s = start (lp (wd d)) in (s .pre .0 .0, s .pre .0 .1, front-room (first d .front))
 
 -- after the second look
 second : (c : tie.After-visit2 Inv-loop μ-loop) → (
     let d = v1 c in
-    let s = lp (wd d) .before .args in
+    let s = start (lp (wd d)) .args in
     Looked (s .n) (Arg (s .n) (s .a .now) (s .b .now)) (s .okay .now) (s .k) (s .x) (set (s .mark .now) (s .x) (s .x)) (d .visit .last .1 .1 .1 .1 .1 .0) (d .visit .last .1 .1 .1 .1 .1 .1 .0) (d .visit .result) (getD (s .b .now) (wd d .wide .result) 0)
     (c .visit2 .last .1 .1 .1 .1 .1 .0) (c .visit2 .last .1 .1 .1 .1 .1 .1 .0) (c .visit2 .result)
     )
 second c =
     let d = v1 c in
-    let s = lp (wd d) .before .args in
+    let s = start (lp (wd d)) .args in
     let l = lp (wd d) .loop in
-    looked (s .n) (lp (wd d) .before .pre .0) (Arg (s .n) (s .a .now) (s .b .now)) (s .okay .now) (s .k) (s .x) (set (s .mark .now) (s .x) (s .x)) (d .visit .last .1 .1 .1 .1 .1 .0) (d .visit .last .1 .1 .1 .1 .1 .1 .0)
+    looked (s .n) (Arg (s .n) (s .a .now) (s .b .now)) (s .okay .now) (s .k) (s .x) (set (s .mark .now) (s .x) (s .x)) (d .visit .last .1 .1 .1 .1 .1 .0) (d .visit .last .1 .1 .1 .1 .1 .1 .0)
     (c .visit2 .last .1 .1 .1 .1 .1 .0) (c .visit2 .last .1 .1 .1 .1 .1 .1 .0) (d .visit .result) (c .visit2 .result) (getD (s .b .now) (wd d .wide .result) 0) (wd d .wide .result)
-    (first d .front) (v-small (wd d)) (first d .grew .stays _ (v-marked (wd d))) (λ yl. (v-small (wd d), yl, inr refl)) (c .visit2 .ensures)
-
-add-head : tie.Need-add-head Inv-loop μ-loop
-add-head c = omega (arith, head-small (wd (v1 c) .before .before))
+    (first d .front) (v-small (wd d)) (first d .grew .stays _ (v-marked (wd d))) (λ yl. (v-small (wd d), yl, v-stated (wd d), inr refl)) (c .visit2 .ensures)
 
 loop-less : tie.Need-loop-less Inv-loop μ-loop
-loop-less c = omega (arith, head-small (wd (v1 c) .before .before))
+loop-less c = let i = wd (v1 (v2 c)) .before .before in let g = start (i .before) .args in omega (arith, head-small i, length-set (g .mark .now) (g .x) (g .x))
 
 loop-again : tie.Need-loop-again Inv-loop μ-loop
 loop-again c =
-    let d = v1 c in
+    let e = v2 c in
+    let d = v1 e in
     let i = wd d .before .before in
-    let g = grew-join (first d .grew) (second c .grew) in (
-      second c .front,
+    let g = grew-join (first d .grew) (second e .grew) in (
+      second e .front,
       done-more (wd d .wide .result) (g .same (i .before .loop .head) (i .loop-test .taken) ∙ sym (wd d .wide .ensures))
-          (λ z e. ⊎-elim
-          (λ h. second c .grew .stays z (seen-at (first d) z h (e .0 .1) (e .1)))
-          (λ h. seen-at (second c) z h (e .0 .1) (e .1))
-          (e .0 .2))
+          (λ z h. ⊎-elim
+          (λ o. second e .grew .stays z (seen-at (first d) z o (h .0 .1) (h .1)))
+          (λ o. seen-at (second e) z o (h .0 .1) (h .1))
+          (h .0 .3))
           (done-kept (i .before .loop .inv .2) g (i .before .loop .inv .1)),
       omega (arith, g .longer, i .loop-test .taken),
+      e .visit2 .kept .1 .1 .1 .1 .1 .1 .0 ∙ d .visit .kept .1 .1 .1 .1 .1 .1 .0 ∙ i .before .loop .inv .3,
     )
 
 returns : tie.Need-returns Inv-loop μ-loop
 returns c =
-    let s = c .before .before in
+    let s = start (c .before) in
     let g = s .args in
-    let l = c .before .loop in (
-      found-before (g .n) (s .pre .0) (Arg (g .n) (g .a .now) (g .b .now)) (g .okay .now) (g .k) (g .x) (g .mark .now) (l .mark)
-          (ended (g .n) (s .pre .0) (Arg (g .n) (g .a .now) (g .b .now)) (g .okay .now) (g .k) (g .x) (set (g .mark .now) (g .x) (g .x)) (l .mark) (l .queue) (l .head) (l .tail)
-          (s .pre .1 .small) (λ u v e. e .1) (l .inv .0) (l .inv .1) (c .loop-test .left)),
-      l .inv .0 .lenq,
-    )
+    let l = c .before .loop in
+    found-before (g .n) (Arg (g .n) (g .a .now) (g .b .now)) (g .okay .now) (g .k) (g .x) (g .mark .now) (l .mark)
+    (ended (g .n) (Arg (g .n) (g .a .now) (g .b .now)) (g .okay .now) (g .k) (g .x) (set (g .mark .now) (g .x) (g .x)) (l .mark) (l .queue) (l .head) (l .tail)
+    (s .pre .0 .2 .small) (λ u v e. e .1) (l .inv .0) (l .inv .1) (c .loop-test .left))
 
 pub mark-reads-spec : {M : Type 1} → statement M
 mark-reads-spec =
@@ -142,20 +137,22 @@ mark-reads-spec =
     (tie.spec
     Inv-loop
     μ-loop
-    mul-mark
-    element-write-mark
-    (λ c. search needs)
+    (λ c. let s = c .before .before .before in omega (arith, s .pre .0 .0, s .pre .0 .2 .small))
+    (λ c. let s = c .before .before .before in omega (arith, s .pre .0 .3, s .pre .0 .2 .small))
+    (λ c. let s = c .before .before .before in omega (arith, s .pre .0 .3, s .pre .0 .4, s .pre .0 .2 .small))
     loop-holds
-    mul-wide
-    element-copy-out-wide
+    (λ c. omega (arith, scaled c))
+    (λ c. let l = c .before .before in let g = start l .args in omega (arith, head-small (c .before), l .loop .inv .0 .lenq, length-set (g .mark .now) (g .x) (g .x)))
     (λ c κs. tt)
-    mul-visit
-    element-copy-out-visit
+    (λ c. omega (arith, small c))
+    (λ c. small c)
     visit-requires
-    mul-visit-2
-    element-copy-out-visit-2
+    (λ c. omega (arith, small (wd (c .before .before .before .before))))
+    (λ c. small (wd (c .before .before .before .before)))
     visit-requires-2
-    add-head
+    (λ c. omega (arith, scaled (wd (v1 (v2 c)) .before .before)))
     loop-less
     loop-again
+    (λ c. let g = start (c .before) .args in c .before .loop .inv .0 .lenm ∙ length-set (g .mark .now) (g .x) (g .x))
+    (λ c. let g = start (c .before) .args in c .before .loop .inv .3 ∙ length-set (g .queue .now) 0 (g .x))
     returns)

@@ -16,11 +16,12 @@ returns-2 c =
 
 returns-3 : tie.Need-returns-3
 returns-3 c =
-    let u = c .before .before .unlabelled .ensures in
+    let v = c .before .before .unlabelled in
+    let u = v .ensures in
     record {
       onward = omega (arith, u .from, c .before .if2 .left);
       within = omega (arith, c .before .if2 .left);
-      skip = λ k h l f. dite (ℕ-discrete (c .before .before .unlabelled .result) k) (λ e. ap (λ (v : ℕ). getD (c .before .before .before .before .args .slots .now) v 0) e) (λ e. absurd (u .skip k h (omega (arith, e, l)) f));
+      skip = λ k h l f. dite (ℕ-discrete (v .result) k) (λ e. ap (λ (x : ℕ). getD (c .before .before .before .before .before .before .before .args .slots .now) x 0) e) (λ e. absurd (u .skip k h (omega (arith, e, l)) f));
     }
 
 pub next-seed-spec : {M : Type 1} → statement M

@@ -4,7 +4,7 @@ use native.Mathlib.Omega.{arith}
 use native.Mathlib.Decide.{ℕ-discrete}
 use mathlib.Core.Path.{_≡_, sym, ap, subst, _∙_}
 use mathlib.Core.Logic.{dite}
-use lib.ListN.{getD}
+use lib.ListN.{getD, length}
 use Rattle.labels.proofs.search.unlabelled.Statement.{statement}
 use Rattle.labels.proofs.search.unlabelled.Tie as tie
 
@@ -14,24 +14,24 @@ Inv-loop count slots rep from i₀ i = (from ≤ i) × (i ≤ count) × ((k : �
 abbrev μ-loop : tie.MeasureT-loop
 μ-loop count slots rep from i₀ i = count - i
 
-slot : (c : tie.After-wide Inv-loop μ-loop) → c .wide .result < 4096
-slot c = omega (arith, c .wide .ensures, c .before .before .before .before .pre .2 (c .before .before .before .loop .i) (c .before .before .loop-test .taken))
+slot : (c : tie.After-wide Inv-loop μ-loop) → c .wide .result < length (c .before .before .before .before .before .before .args .rep .now)
+slot c = omega (arith, c .wide .ensures, c .before .before .before .before .before .before .pre .2 (c .before .before .before .loop .i) (c .before .before .loop-test .taken))
 
 loop-holds : tie.Need-loop-holds Inv-loop μ-loop
 loop-holds c = (omega arith, omega arith, λ y h k. absurd (omega arith))
 
 mul-if1 : tie.Need-mul-if1 Inv-loop μ-loop
-mul-if1 c = omega (arith, slot c)
+mul-if1 c = omega (arith, slot c, c .before .before .before .before .before .before .good .1 .1 .0 .1)
 
-element-copy-out-if1 : tie.Need-element-copy-out-if1 Inv-loop μ-loop
-element-copy-out-if1 c = slot c
+shared-slice-read-if1 : tie.Need-shared-slice-read-if1 Inv-loop μ-loop
+shared-slice-read-if1 c = slot (c .before)
 
 returns : tie.Need-returns Inv-loop μ-loop
-returns c = let g = c .before .before .before .before .before .before .args in let l = c .before .before .before .before .before .loop in record { from = l .inv .0; within = l .inv .1; skip = l .inv .2; hit = λ _. subst (λ (u : ℕ). getD (g .rep .now) u 0 ≡ 65533) (c .before .before .wide .ensures) (c .if1 .taken) }
+returns c = let g = c .before .before .before .before .before .before .before .before .args in let l = c .before .before .before .before .before .loop in record { from = l .inv .0; within = l .inv .1; skip = l .inv .2; hit = λ _. subst (λ (u : ℕ). getD (g .rep .now) u 0 ≡ 65533) (c .before .before .wide .ensures) (c .if1 .taken) }
 
 loop-again : tie.Need-loop-again Inv-loop μ-loop
 loop-again c =
-    let g = c .before .before .before .before .before .before .args in
+    let g = c .before .before .before .before .before .before .before .before .args in
     let l = c .before .before .before .before .before .loop in
     let here : getD (g .rep .now) (getD (g .slots .now) (l .i) 0) 0 ≡ 65533 → ⊥ = λ q. c .if1 .left (ap (λ (u : ℕ). getD (g .rep .now) u 0) (c .before .before .wide .ensures) ∙ q) in (
       omega arith,
@@ -53,7 +53,7 @@ unlabelled-spec =
     (λ c. omega arith)
     (λ c κs. tt)
     mul-if1
-    element-copy-out-if1
+    shared-slice-read-if1
     returns
     (λ c. omega arith)
     (λ c. omega arith)

@@ -10,4 +10,4 @@ returns : tie.Need-returns
 returns c = skipped (λ h _. absurd (not-le-of-lt h (c .if1 .taken))) refl refl refl
 
 pub visit-spec : {M : Type 1} → statement M
-visit-spec = tie.close (tie.spec returns (λ c κs. search needs) (λ c. search needs))
+visit-spec = tie.close (tie.spec returns (λ c κs. search needs) (λ c. search needs) (λ c. search needs) (λ c. search needs))
