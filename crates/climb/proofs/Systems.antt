@@ -1,10 +1,8 @@
 -- Gaining makes local; a least assignment is unique; the members of a list's sets, counted. Assumes nothing.
 use mathlib.Core.Path.{_≡_, refl, sym}
 use mathlib.Core.Bool.{Bool, true, false, cond}
-use mathlib.Core.Logic.{⊎-elim, _≢_}
 use mathlib.Core.List.{List, [], _∷_, List·Memᴰ·head, List·Memᴰ·tail}
 use Prim.Native.Nat.{ℕ, _*_, _≤_, _<_, zero-le}
-use native.Mathlib.Nat.{eq-or-lt-of-le}
 use native.Mathlib.Omega.{arith}
 use lib.ListN.{length}
 use Rattle.sets.specs.Members.{_⊑_}
@@ -56,10 +54,6 @@ weight-eq (x ∷ l) v w h e y (List·Memᴰ·tail m) = weight-eq l v w h (omega 
 pub weight-cong : (l : List ℕ) (a b : Assignment) → ((x : ℕ) → a x ≡ b x) → weight l a ≡ weight l b
 weight-cong [] a b h = refl
 weight-cong (x ∷ l) a b h = rw (h x, weight-cong l a b h)
-
--- a change adds a member
-pub weight-lt : (l : List ℕ) (v w : Assignment) → ((x : ℕ) → v x ⊑ w x) → (x : ℕ) → x ∈ l → v x ≢ w x → weight l v < weight l w
-weight-lt l v w h x m ne = ⊎-elim (λ e. absurd (ne (weight-eq l v w h e x m))) (λ k. k) (eq-or-lt-of-le (weight-mono l v w h))
 
 pub weight-le : (l : List ℕ) (v : Assignment) → Small v → weight l v ≤ 64 * length l
 weight-le [] v h = zero-le

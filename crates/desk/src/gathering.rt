@@ -2,7 +2,6 @@
 ghost use mathlib.Core.Path.{_≡_};
 ghost use Prim.Native.Nat.{_≤_};
 ghost use lib.ListN.{length, take};
-ghost use Rattle.frames.specs.Frames.{lineAfter};
 ghost use Rattle.owing.specs.Owed.{Begun};
 ghost use Rattle.desk.specs.Gathering.{Gathers};
 
@@ -45,11 +44,4 @@ pub fn gather(piece: &[u8], from: usize, window: &mut [u8], begun: usize) -> Gat
         place: at,
         whole: true,
     }
-}
-
-// The number of the line behind, ffffffff at most.
-pub fn line_after(line: u32) -> u32
-    ensures { λ r. ⌜ r ≡ lineAfter line ⌝ }
-{
-    if line < 0xffff_ffff { line + 1 } else { line }
 }

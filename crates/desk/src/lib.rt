@@ -13,7 +13,6 @@ pub use fitting::judge_state;
 use frames::Expected;
 pub use gathering::Gathered;
 pub use gathering::gather;
-pub use gathering::line_after;
 use owing::Mode;
 use update::Record;
 ghost use mathlib.Core.Path.{_≡_};

@@ -201,7 +201,7 @@ fn frame_of(text: &[u8], place: usize, n: usize, line: u32) -> Frame
 }
 
 // The number of the line behind, ffffffff at most.
-fn line_after(line: u32) -> u32
+pub fn line_after(line: u32) -> u32
     ensures { λ r. ⌜ r ≡ lineAfter line ⌝ }
 {
     if line < 0xffff_ffff { line + 1 } else { line }

@@ -4,6 +4,7 @@ mod out;
 mod walk;
 
 pub use kinds::frame_at;
+pub use kinds::line_after;
 pub use out::put_done;
 pub use out::put_refusal;
 pub use out::put_round;

@@ -16,7 +16,8 @@ use Rattle.wire.specs.Instances.{nodeOf, indexOf, declared}
 use Rattle.update.specs.Memories.{filled, belowPoint, arranged}
 use Rattle.memory.specs.Cleared.{clearedAt, cleared}
 use Rattle.memory.proofs.Placed.{getD-zeros, getD-filled, length-filled, length-exchanged, exchanged-front, exchanged-new, exchanged-rest}
-use Rattle.memory.proofs.Slots.{length-slots, getD-slots, cleared-in, cleared-out, getD-cleared, length-cleared}
+use Rattle.circles.proofs.Lists.{map-at, map-long}
+use Rattle.memory.proofs.Slots.{cleared-in, cleared-out, getD-cleared, length-cleared}
 
 -- the sets of n nodes where those below r, of a part of k nodes, made way for the empty ones of a part of s nodes
 abbrev pub shifted : List ℕ → ℕ → ℕ → ℕ → ℕ → List ℕ
@@ -82,7 +83,7 @@ module _ (l : List ℕ) (n r k s : ℕ) (hk : 0 < k) (hs : 0 < s) (hr : r + k �
 
     result-long : length result ≡ 8 * length ns
     unfolding result
-    result-long = length-slots (arranged t ns r k s l) (8 * length ns)
+    result-long = map-long (arranged t ns r k s l) 0 (8 * length ns)
 
     slot : (x : ℕ) → clearedAt t ns 0 (length ns) ready x ≡ getD result x 0
     unfolding ready result arranged
@@ -90,7 +91,7 @@ module _ (l : List ℕ) (n r k s : ℕ) (hk : 0 < k) (hs : 0 < s) (hr : r + k �
       | yes p ↦
           cleared-in t ns 0 (length ns) ready x (omega arith) p
           ∙ ap (λ v. cond (declared t ns x) v 0) (getD-filled (shifted l n r k s) l x ∙ values x (omega arith))
-          ∙ sym (getD-slots (arranged t ns r k s l) (8 * length ns) x (omega arith))
+          ∙ sym (map-at (arranged t ns r k s l) 0 (8 * length ns) x (omega arith))
       | no p ↦
           cleared-out t ns 0 (length ns) ready x (inr (omega arith))
           ∙ getD-filled (shifted l n r k s) l x

@@ -2,16 +2,16 @@
 use mathlib.Core.Path.{_≡_, refl, ap, sym, _∙_}
 use mathlib.Core.Logic.{_⊎_, inl, inr, ⊎-elim}
 use mathlib.Core.Bool.{Bool, true, false, cond, not, _&&_}
-use mathlib.Core.List.{List, [], _∷_, _++_, map}
-use Prim.Native.Nat.{ℕ, zero, suc, _+_, _-_, _*_, _/_, _%_, _≤_, _<_}
-use native.Mathlib.Nat.{le-of-suc-le-suc, not-suc-le-zero}
+use mathlib.Core.List.{List, map}
+use Prim.Native.Nat.{ℕ, _+_, _-_, _*_, _/_, _%_, _≤_, _<_}
 use native.Mathlib.Decide.{decLt}
 use native.Mathlib.Omega.{arith}
 use borrow.Author.Tests.{lt-ltb, le-ltb, le-leb, lt-leb}
 use lib.Dec.{leb, ltb}
-use lib.ListN.{length, getD, replicate, length-map, length-replicate}
+use lib.ListN.{length, getD, replicate, length-replicate}
 use lib.Seq.{ext-getD, paste, length-paste}
 use Rattle.circles.specs.Ranked.{upFrom}
+use Rattle.circles.proofs.Lists.{map-at, map-long}
 use Rattle.table.specs.Words.{synthesized, inherited, leftOf, hasSet}
 use Rattle.wire.specs.Instances.{nodeOf, indexOf, declared}
 use Rattle.memory.specs.Cleared.{among, clearedAt, cleared}
@@ -20,27 +20,10 @@ use Rattle.memory.proofs.Placed.{getD-zeros}
 
 -- ---- a list by its slots
 
-pub length-upFrom : (k n : ℕ) → length (upFrom k n) ≡ n
-unfolding upFrom
-length-upFrom k zero = refl
-length-upFrom k (suc n) = ap suc (length-upFrom (suc k) n)
-
-pub length-slots : (f : ℕ → ℕ) (n : ℕ) → length (map f (upFrom 0 n)) ≡ n
-length-slots f n = length-map (upFrom 0 n) f ∙ length-upFrom 0 n
-
-from-k : (f : ℕ → ℕ) (k n i : ℕ) → i < n → getD (map f (upFrom k n)) i 0 ≡ f (k + i)
-unfolding upFrom
-from-k f k zero i h = absurd (not-suc-le-zero h)
-from-k f k (suc n) zero h = let e : k ≡ k + 0 = omega arith in ap f e
-from-k f k (suc n) (suc i) h = let e : suc k + i ≡ k + suc i = omega arith in from-k f (suc k) n i (le-of-suc-le-suc h) ∙ ap f e
-
-pub getD-slots : (f : ℕ → ℕ) (n x : ℕ) → x < n → getD (map f (upFrom 0 n)) x 0 ≡ f x
-getD-slots f n x h = let e : 0 + x ≡ x = omega arith in from-k f 0 n x h ∙ ap f e
-
 pub by-slots : (l : List ℕ) (f : ℕ → ℕ) (n : ℕ) → length l ≡ n → ((x : ℕ) → x < n → getD l x 0 ≡ f x) → l ≡ map f (upFrom 0 n)
 by-slots l f n e h =
-    ext-getD 0 l (map f (upFrom 0 n)) (e ∙ sym (length-slots f n))
-    (λ x k. let k′ : x < n = omega arith in h x k′ ∙ sym (getD-slots f n x k′))
+    ext-getD 0 l (map f (upFrom 0 n)) (e ∙ sym (map-long f 0 n))
+    (λ x k. let k′ : x < n = omega arith in h x k′ ∙ sym (map-at f 0 n x k′))
 
 -- ---- zeros that are pasted
 
@@ -84,11 +67,11 @@ module _ (t ns : List ℕ) (a b : ℕ) (l : List ℕ) (x : ℕ) where
 
   pub getD-cleared : x < length l → getD (cleared t ns a b l) x 0 ≡ clearedAt t ns a b l x
   unfolding cleared
-  getD-cleared h = getD-slots (clearedAt t ns a b l) (length l) x h
+  getD-cleared h = map-at (clearedAt t ns a b l) 0 (length l) x h
 
 pub length-cleared : (t ns : List ℕ) (a b : ℕ) (l : List ℕ) → length (cleared t ns a b l) ≡ length l
 unfolding cleared
-length-cleared t ns a b l = length-slots (clearedAt t ns a b l) (length l)
+length-cleared t ns a b l = map-long (clearedAt t ns a b l) 0 (length l)
 
 -- no node yet
 pub cleared-none : (t ns : List ℕ) (a : ℕ) (l : List ℕ) → l ≡ cleared t ns a 0 l

@@ -13,7 +13,7 @@ use Rattle.tree.specs.Replace.{exchanged, part}
 use Rattle.tree.proofs.Replace.{replacement}
 use Rattle.circles.specs.Ranked.{upFrom}
 use Rattle.memory.proofs.Placed.{length-exchanged, length-filled, take-filled}
-use Rattle.memory.proofs.Slots.{length-slots}
+use Rattle.circles.proofs.Lists.{map-long}
 use Rattle.update.specs.declared.Record.{Record}
 use Rattle.update.specs.declared.Open.the-variants as open-by
 use Rattle.update.specs.Records.{opened, shut, emptyRecord}
@@ -118,7 +118,7 @@ module _ (t : List ℕ) (m : Memory) (r : Record) where
         let room = short-means m .0 (c .0) in
         let x = exchanged-sound in
         let values : ℕ → ℕ = arranged t then point k (length new) (m .sets) in
-        let long : length (map values (upFrom 0 (8 * length then))) ≡ 8 * length then = length-slots values (8 * length then) in
+        let long : length (map values (upFrom 0 (8 * length then))) ≡ 8 * length then = map-long values 0 (8 * length then) in
         record {
           ground = record {
             table = c .1 .0;

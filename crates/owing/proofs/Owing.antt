@@ -256,10 +256,10 @@ module _ (t ps os : List ℕ) (m : Memory) (r : Record) (line : ℕ) (w : List �
 
 pub line-pays : LinePays
 unfolding hearing
-line-pays (Table x) t ps os m r line w on sound room size long owns-long h =
+line-pays (Table x) t ps os m r line w on sound room long owns-long h =
     tabled-pays t ps os m r line w (h .some) x (sound .1) (frameAt w 0 line .frame) (front w line h) (sound .0) room
-line-pays Command t ps os m r line w on sound room size long owns-long h = commanded-pays t ps os m r line w (h .some) sound (frameAt w 0 line .frame) (front w line h)
-line-pays (NodesOf order count taken at) t ps os m r line w on sound room size long owns-long h =
+line-pays Command t ps os m r line w on sound room long owns-long h = commanded-pays t ps os m r line w (h .some) sound (frameAt w 0 line .frame) (front w line h)
+line-pays (NodesOf order count taken at) t ps os m r line w on sound room long owns-long h =
     noded-pays t ps os m r line w (h .some) order count taken at (sound .1) long owns-long (sound .0) (frameAt w 0 line .frame) (front w line h)
-line-pays (Working n) t ps os m r line w on sound room size long owns-long h = absurd (true≢false (sym on))
-line-pays Stopped t ps os m r line w on sound room size long owns-long h = record { owing = λ u. nothing-owed t ps os m r line (w ++ u) ∙ sym (nothing-owed t ps os m r (lineAfter line) u); sound = tt }
+line-pays (Working n) t ps os m r line w on sound room long owns-long h = absurd (true≢false (sym on))
+line-pays Stopped t ps os m r line w on sound room long owns-long h = record { owing = λ u. nothing-owed t ps os m r line (w ++ u) ∙ sym (nothing-owed t ps os m r (lineAfter line) u); sound = tt }

@@ -34,7 +34,7 @@ pub record Pays (mode : Mode) (t ps os : List ℕ) (m : Memory) (r : Record) (li
 
 -- for every state that a session comes to, with memory that is long enough, and every whole line; 513 nodes have a place
 abbrev pub LinePays : Type 0
-LinePays = (mode : Mode) (t ps os : List ℕ) (m : Memory) (r : Record) (line : ℕ) (w : List ℕ) → listens mode ≡ true → Sound mode t m r → Roomy m → length t ≡ 2657
+LinePays = (mode : Mode) (t ps os : List ℕ) (m : Memory) (r : Record) (line : ℕ) (w : List ℕ) → listens mode ≡ true → Sound mode t m r → Roomy m
     → 513 ≤ length ps → 513 ≤ length os → Whole w
     → Pays mode t ps os m r line w (hearing mode (frameAt w 0 line .frame) line t ps os m r)
 

@@ -259,7 +259,7 @@ module _ (t w ps os : List ℕ) (m : Memory) (s : State) (piece : List ℕ) (fro
 
       module _ (k : Sized here after) (yes : whole ≡ true) (on : silent (s .mode) ≡ false) where
         pays : Pays (s .mode) t ps os m (s .«record») (s .line) (take n w′) heard
-        pays = line-pays (s .mode) t ps os m (s .«record») (s .line) (take n w′) (listening (s .mode) on) sound-here (ready .fits .wide .room) (ready .size) (ready .fits .wide .parts-room) (ready .fits .wide .owns-room) (g .decided yes)
+        pays = line-pays (s .mode) t ps os m (s .«record») (s .line) (take n w′) (listening (s .mode) on) sound-here (ready .fits .wide .room) (ready .fits .wide .parts-room) (ready .fits .wide .owns-room) (g .decided yes)
 
         bounds : Modest (length t) heard
         bounds = heard-modest (s .mode) frameOf (s .line) t ps os m (s .«record») sound-here

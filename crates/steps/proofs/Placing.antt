@@ -1,15 +1,15 @@
 -- What is laid out circle behind circle is arranged: each circle stands between its ends. Assumes nothing.
 use mathlib.Core.Path.{_≡_, refl, sym, ap, _∙_}
-use mathlib.Core.Bool.{cond}
 use mathlib.Core.List.{List, [], _∷_, _++_, append-assoc}
 use Prim.Native.Nat.{ℕ, zero, suc, _+_, _≤_, _<_}
 use native.Mathlib.Omega.{arith}
 use lib.Dec.{eqb}
-use lib.ListN.{length, getD, drop, length-append, length-map, List·getD-append}
+use lib.ListN.{length, getD, drop, length-append, List·getD-append}
 use lib.Seq.{slice, take-at, drop-at}
 use Rattle.circles.specs.Graph.{Graph}
 use Rattle.circles.specs.Arrays.{graphOf, joined, endsFrom, over}
-use Rattle.circles.specs.Ranked.{upFrom, slots, reachings, labelIn, labelsBy, labelsOf, labelAt}
+use Rattle.circles.specs.Ranked.{labelsOf, labelAt}
+use Rattle.circles.proofs.Least.{labels-long}
 use Rattle.climb.specs.Circuit.{circleAt}
 use Rattle.climb.proofs.Places.{default-is}
 use Rattle.rounds.specs.Arranged.{Arranged, circlesIn, Listed, LaidArranged}
@@ -51,18 +51,9 @@ circle-laid (C ∷ R) pre t u (suc i) h = rw (append-assoc C (joined R) t, ← a
 
 -- ---- the labels
 
-length-up : (k n : ℕ) → length (upFrom k n) ≡ n
-unfolding upFrom
-length-up k zero = refl
-length-up k (suc n) = ap suc (length-up (suc k) n)
-
-length-labels : (G : Graph) → length (labelsOf G) ≡ G .size
-unfolding labelsOf labelsBy
-length-labels G = length-map (slots G) (λ x. cond (G .declared x) (labelIn G (reachings G) x) 65535) ∙ length-up 0 (G .size)
-
 label-over : (G : Graph) (l : List ℕ) (y : ℕ) → y < G .size → getD (over (labelsOf G) l) y 0 ≡ labelAt (labelsOf G) y
 label-over G l y h =
-    let k : y < length (labelsOf G) = rw (length-labels G) h in
+    let k : y < length (labelsOf G) = rw (labels-long G) h in
     List·getD-append (labelsOf G) (drop (length (labelsOf G)) l) 0 y k ∙ default-is (labelsOf G) y 0 65535 k
 
 -- ---- all of it
@@ -73,7 +64,7 @@ module _ (R : List (List ℕ)) (n : ℕ) (a b l₀ m₀ e₀ : List ℕ) (w : Li
   arranged-over = record {
     counted = refl;
     few = w .count;
-    labels = omega (arith, length-append (labelsOf (graphOf n a b)) (drop (length (labelsOf (graphOf n a b))) l₀), length-labels (graphOf n a b));
+    labels = omega (arith, length-append (labelsOf (graphOf n a b)) (drop (length (labelsOf (graphOf n a b))) l₀), labels-long (graphOf n a b));
     ended = omega (arith, length-append (endsFrom 0 R) (drop (length (endsFrom 0 R)) e₀), length-ends R 0);
     rise = λ i h. omega (arith, ends-next R 0 (drop (length (endsFrom 0 R)) e₀) i h, w .some i h);
     room = λ i h. omega (arith, ends-most R 0 (drop (length (endsFrom 0 R)) e₀) (suc i) h, length-append (joined R) (drop (length (joined R)) m₀));

@@ -6,16 +6,11 @@ use lib.ListN.{length, getD, drop, length-append, length-drop, List·getD-append
 use lib.Seq.{getD-append-add, getD-drop, ext-getD}
 use native.Mathlib.Decide.{decLt}
 use native.Mathlib.Omega.{arith}
-use Rattle.tree.specs.Spans.{Spans}
 use Rattle.circles.specs.Arrays.{over}
 use Rattle.wire.specs.Arrays.{firstAt, secondAt, leftAt, ruleIn, bySlot, Wired}
-use Rattle.wire.specs.Turns.{Held, Ends, Room, Partly, Behind, Stay}
+use Rattle.wire.specs.Turns.{Held, Room, Partly, Behind, Stay}
 use Rattle.wire.proofs.Holding.{slots-length, slot-at}
 use Rattle.wire.proofs.Turning.{partly-all}
-
--- the ends as `spans` of the trees leaves them
-pub spans-ends : {t ns before ends : List ℕ} → length ns ≤ length before → Spans t ns before ends → Ends t ns ends
-spans-ends h s = record { long = omega (arith, h, s .long); ended = s .nodes }
 
 -- ---- the arrays at the end
 

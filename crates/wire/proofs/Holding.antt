@@ -1,5 +1,5 @@
 -- The arrays of the wiring hold the system of the table and the tree. Assumes nothing.
-use Prim.Native.Nat.{ℕ, zero, suc, _+_, _-_, _*_, _≤_, _<_}
+use Prim.Native.Nat.{ℕ, zero, suc, _*_, _≤_, _<_}
 use mathlib.Core.Path.{_≡_, refl, sym, ap, ap₂, _∙_}
 use mathlib.Core.Bool.{Bool, true, false, or-true}
 use mathlib.Core.List.{List, [], _∷_, map, List·Memᴰ·head, List·Memᴰ·tail}
@@ -20,8 +20,9 @@ use Rattle.table.specs.Judge.{judgeTable}
 use Rattle.table.proofs.Limits.{limits}
 use Rattle.tree.specs.Tree.{judgeNodes}
 use Rattle.circles.specs.Graph.{_∈_}
-use Rattle.circles.specs.Ranked.{member, allOf, upFrom}
+use Rattle.circles.specs.Ranked.{member, allOf}
 use Rattle.circles.specs.Arrays as arrays
+use Rattle.circles.proofs.Lists.{map-at, map-long}
 use Rattle.climb.specs.System.{Assignment, System}
 use Rattle.climb.specs.Memory.{at, stores}
 use Rattle.climb.specs.Wired.{readOf, evalOf, wired}
@@ -68,22 +69,11 @@ map-map f v (a ∷ l) = ap (λ (k : List ℕ). v (f a) ∷ k) (map-map f v l)
 
 -- ---- what an array holds for a slot
 
-upFrom-length : (k n : ℕ) → length (upFrom k n) ≡ n
-unfolding upFrom
-upFrom-length k zero = refl
-upFrom-length k (suc n) = ap suc (upFrom-length (suc k) n)
-
-map-at : (f : ℕ → ℕ) (k n x d : ℕ) → x < n → getD (map f (upFrom k n)) x d ≡ f (k + x)
-unfolding upFrom
-map-at f k zero x d h = absurd (omega arith)
-map-at f k (suc n) zero d h = ap f (omega arith)
-map-at f k (suc n) (suc x) d h = map-at f (suc k) n x d (omega arith) ∙ ap f (omega arith)
-
 pub slots-length : (ns : List ℕ) (f : ℕ → ℕ) → length (bySlot ns f) ≡ 8 * length ns
-slots-length ns f = length-map (upFrom 0 (8 * length ns)) f ∙ upFrom-length 0 (8 * length ns)
+slots-length ns f = map-long f 0 (8 * length ns)
 
 pub slot-at : (ns : List ℕ) (f : ℕ → ℕ) (x d : ℕ) → x < 8 * length ns → getD (bySlot ns f) x d ≡ f x
-slot-at ns f x d h = map-at f 0 (8 * length ns) x d h ∙ ap f (omega arith)
+slot-at ns f x d h = map-at f d (8 * length ns) x h
 
 module _ (ns : List ℕ) (f : ℕ → ℕ) (l₀ l : List ℕ) (e : l ≡ arrays.over (bySlot ns f) l₀) where
   held-at : (x d : ℕ) → x < 8 * length ns → getD l x d ≡ f x

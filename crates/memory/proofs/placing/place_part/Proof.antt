@@ -11,7 +11,7 @@ use Rattle.tree.specs.Replace.{exchanged}
 use Rattle.update.specs.Memories.{filled, arranged}
 use Rattle.memory.specs.Numbered.{Numbered}
 use Rattle.memory.proofs.Placed.{length-exchanged, take-filled}
-use Rattle.memory.proofs.Slots.{length-slots}
+use Rattle.circles.proofs.Lists.{map-long}
 use Rattle.memory.proofs.Numbered.{exchanged-numbered}
 use Rattle.memory.proofs.placing.place_part.Statement.{statement}
 use Rattle.memory.proofs.placing.place_part.Tie as tie
@@ -63,7 +63,7 @@ values s = arrangedBy s (tree s)
 
 values-long : (s : tie.Start) → length (values s) ≡ 8 * count s
 values-long s =
-    length-slots (arranged (s .args .table .now) (tree s) (s .args .point) (s .args .old) (length (s .args .new .now)) (s .args .sets .now)) (8 * length (tree s))
+    map-long (arranged (s .args .table .now) (tree s) (s .args .point) (s .args .old) (length (s .args .new .now)) (s .args .sets .now)) 0 (8 * length (tree s))
     ∙ ap (λ n. 8 * n) (tree-long s)
 
 abbrev nodes-of : tie.After-arrange-sets → tie.After-exchange-nodes
