@@ -103,6 +103,25 @@ module _ (f : ℕ → ℕ) (m n : ℕ) where
       let q : Partly f m n first next 0 = subst (λ (u : ℕ). Partly f m n first next u) z p in
       record { firsts = q .lenf; nexts = q .lenn; start = q .start; step = λ x h₁ h₂. q .step x (omega arith) h₁ h₂ }
 
+-- ---- along a chain
+
+-- e is on y's chain, and P holds at the places before e
+pub record Upto (f : ℕ → ℕ) (m y : ℕ) (P : ℕ → Type 0) (e : ℕ) : Type 0 where
+  pub hit : e < m → f e ≡ y
+  pub past : (i : ℕ) → i < e → i < m → f i ≡ y → P i
+
+pub upto-start : {f : ℕ → ℕ} {m y : ℕ} (P : ℕ → Type 0) {e : ℕ} → Next f m y 0 e → Upto f m y P e
+upto-start P t = record { hit = t .hit; past = λ i h₁ h₂ h₃. absurd (t .skip i (omega arith) h₁ h₂ h₃) }
+
+-- where Q holds at e, and of what P held of
+pub upto-more : {f : ℕ → ℕ} {m y : ℕ} {P : ℕ → Type 0} (Q : ℕ → Type 0) {e : ℕ} (e′ : ℕ) → Upto f m y P e → ((i : ℕ) → i < m → P i → Q i) → Q e → Next f m y (e + 1) e′ → Upto f m y Q e′
+upto-more Q {e} e′ u keeps q t = record {
+  hit = t .hit;
+  past = λ i h₁ h₂ h₃. dite (ℕ-discrete i e)
+      (λ c. subst Q (sym c) q)
+      (λ c. dite (decLt i e) (λ d. keeps i h₂ (u .past i d h₂ h₃)) (λ d. absurd (t .skip i (omega (arith, c, d)) h₁ h₂ h₃)));
+}
+
 -- ---- the row of the arguments
 
 module _ (a b : List ℕ) (x e : ℕ) where

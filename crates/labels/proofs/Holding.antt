@@ -1,20 +1,20 @@
 -- The graph that two arrays hold. Assumes nothing.
-use Prim.Native.Nat.{ℕ, zero, suc, _+_, _≤_, _<_}
+use Prim.Native.Nat.{ℕ, zero, suc, _≤_, _<_}
 use native.Mathlib.Omega.{arith}
-use mathlib.Core.Path.{_≡_, refl, sym, ap, subst, _∙_}
-use mathlib.Core.Bool.{Bool, true, false, cond, not, _&&_, true≢false, false≢true}
+use mathlib.Core.Path.{_≡_, refl, sym, subst, _∙_}
+use mathlib.Core.Bool.{Bool, true, false, cond, not, false≢true}
 use mathlib.Core.List.{List, [], _∷_, List·Memᴰ·head, List·Memᴰ·tail, List·Memᴰ·not-nil, List·Memᴰ·cases-cons}
 use mathlib.Core.Logic.{_⊎_, inl, inr, ⊎-elim}
 use lib.ListN.{length, getD}
 use lib.Dec.{eqb, ltb}
-use borrow.Author.Tests.{eq-eqb, ne-eqb, eqb-true, eqb-false, lt-ltb, le-ltb, ltb-true, ltb-false}
-use Rattle.circles.specs.Graph.{Graph, Reads, Reaches, Together, Path⁺, here, there, Closed, _∈_}
+use borrow.Author.Tests.{ne-eqb, eqb-false, lt-ltb, ltb-true}
+use Rattle.circles.specs.Graph.{Reads, Reaches, Together, Path⁺, here, there, Closed, _∈_}
 use Rattle.circles.specs.Arrays.{given, graphOf}
 use Rattle.labels.specs.Search.{Arg, Stated}
 use Rattle.labels.specs.Labels.{Round}
 use Rattle.circles.proofs.Paths.{mapped}
 use Rattle.circles.proofs.Least.{reached-declared}
-use Rattle.circles.proofs.Lists.{and-parts, and-of, not-was, not-of, not-true-false}
+use Rattle.circles.proofs.Lists.{and-parts, and-of, not-was, not-of}
 
 -- within a list the default doesn't matter
 pub getD-any : (l : List ℕ) (i d e : ℕ) → i < length l → getD l i d ≡ getD l i e

@@ -5,7 +5,7 @@ use mathlib.Core.Path.{_≡_, refl, sym, ap, subst, _∙_}
 use mathlib.Core.List.{List}
 use mathlib.Core.Logic.{_⊎_, inl, inr, ⊎-elim, dite}
 use native.Mathlib.Decide.{ℕ-discrete}
-use lib.ListN.{getD, length, set, length-set}
+use lib.ListN.{getD, length, set}
 use lib.Seq.{getD-set-same, getD-set-other}
 use Rattle.circles.specs.Graph.{Path⁺, here, there}
 use Rattle.labels.specs.Search.{Arg, Clean, Via, Back, Found, Blank, Stated}

@@ -1,16 +1,17 @@
 -- Looks along a chain of readers. Assumes nothing.
-use Prim.Native.Nat.{ℕ, zero, suc, _+_, _*_, _/_, _<_, _≤_}
-use native.Mathlib.Decide.{ℕ-discrete, decLt}
-use native.Mathlib.Nat.{le-refl, le-trans}
+use Prim.Native.Nat.{ℕ, _+_, _*_, _/_, _<_}
+use native.Mathlib.Decide.{ℕ-discrete}
+use native.Mathlib.Nat.{le-refl}
 use native.Mathlib.Omega.{arith}
-use mathlib.Core.Path.{_≡_, refl, sym, ap, subst, subst₂, subst₃, _∙_}
+use mathlib.Core.Path.{_≡_, refl, sym, ap, subst₃, _∙_}
 use mathlib.Core.List.{List}
-use mathlib.Core.Logic.{dite, inl, inr}
-use lib.ListN.{getD, length, set, length-set}
+use mathlib.Core.Logic.{dite}
+use lib.ListN.{getD, set, length-set}
 use lib.Seq.{getD-set-same, getD-set-other}
-use Rattle.labels.specs.Search.{stamped, Visited, skipped, added, Looks, begin, look, Next, Via, Room, argOf}
+use Rattle.labels.specs.Search.{Visited, skipped, added, Looks, begin, look, Next, Room}
 use Rattle.labels.proofs.Stamps.{stamped-set}
-use Rattle.labels.proofs.Front.{Front, Grew, Looked, looked, grew-join}
+use Rattle.labels.proofs.Chains.{Upto, upto-more}
+use Rattle.labels.proofs.Front.{Front, Grew, looked, grew-join}
 
 -- what one look keeps and does, with nothing known of the search
 pub record Kept (n y x : ℕ) (okay : List ℕ) (k : ℕ) (m m′ q′ : List ℕ) (r : ℕ) : Type 0 where
@@ -29,22 +30,13 @@ visited-kept {n} {y} {x} {okay} {k} {m} {q} {t} h (added yl yk ne em eq er) =
       seen = λ _ _. at-y;
     })
 
--- e is on v's chain, and all before e are seen
-pub record Along (n : ℕ) (a b : List ℕ) (v x : ℕ) (okay : List ℕ) (k : ℕ) (m : List ℕ) (e : ℕ) : Type 0 where
-  pub hit : e < 2 * n → argOf a b e ≡ v
-  pub past : (i : ℕ) → i < e → i < 2 * n → argOf a b i ≡ v → getD okay (i / 2) 0 ≡ k → getD m (i / 2) 0 ≡ x
+-- the slot of the place i is seen, where it is allowed
+abbrev pub Seen : ℕ → List ℕ → ℕ → List ℕ → ℕ → Type 0
+Seen x okay k m i = getD okay (i / 2) 0 ≡ k → getD m (i / 2) 0 ≡ x
 
-pub along-start : {n : ℕ} {a b : List ℕ} {v : ℕ} (x : ℕ) (okay : List ℕ) (k : ℕ) (m : List ℕ) {e : ℕ} → Next (argOf a b) (2 * n) v 0 e → Along n a b v x okay k m e
-along-start x okay k m n = record { hit = n .hit; past = λ y h₁ h₂ h₃ h₄. absurd (n .skip y (omega arith) h₁ h₂ h₃) }
-
-pub along-more : {n : ℕ} {a b : List ℕ} {v x : ℕ} {okay : List ℕ} {k : ℕ} {m m′ q′ : List ℕ} {e r : ℕ} (y e′ : ℕ) → e < 2 * n → y ≡ e / 2 → Along n a b v x okay k m e → Kept n y x okay k m m′ q′ r → Next (argOf a b) (2 * n) v (e + 1) e′ → Along n a b v x okay k m′ e′
-along-more {n} {x} {okay} {k} {m′} {e} y e′ el q al kp t = record {
-  hit = t .hit;
-  past = λ i h₁ h₂ h₃ h₄. dite (ℕ-discrete i e)
-      (λ c. let z : i / 2 ≡ y = omega (arith, c, q) in
-      ap (λ (u : ℕ). getD m′ u 0) z ∙ kp .seen (omega arith) (ap (λ (u : ℕ). getD okay u 0) (sym z) ∙ h₄))
-      (λ c. dite (decLt i e) (λ d. kp .stays (i / 2) (al .past i d h₂ h₃ h₄)) (λ d. absurd (t .skip i (omega (arith, c, d)) h₁ h₂ h₃)));
-}
+-- the look at the slot of e keeps what is seen and adds that
+pub seen-more : {f : ℕ → ℕ} {n v x : ℕ} {okay : List ℕ} {k : ℕ} {m m′ q′ : List ℕ} {e r : ℕ} (e′ : ℕ) → e < 2 * n → Upto f (2 * n) v (Seen x okay k m) e → Kept n (e / 2) x okay k m m′ q′ r → Next f (2 * n) v (e + 1) e′ → Upto f (2 * n) v (Seen x okay k m′) e′
+seen-more {x} {okay} {k} {m′} e′ el u kp t = upto-more (Seen x okay k m′) e′ u (λ i _ p h. kp .stays (i / 2) (p h)) (kp .seen (omega arith)) t
 
 -- the looks of a sweep, in a search
 pub looks-front : (n : ℕ) (E : ℕ → ℕ → Type 0) (okay : List ℕ) (k x : ℕ) (m₀ m q : List ℕ) (t v : ℕ) (P : ℕ → Type 0) → Front n E okay k x m₀ m q t → v < n → getD m v 0 ≡ x → ((y : ℕ) → P y → y < n → E v y)

@@ -4,7 +4,7 @@ ghost use lib.ListN.{getD, length};
 ghost use Rattle.circles.specs.Arrays.{Given, graphOf, over};
 ghost use Rattle.circles.specs.Ranked.{labelsOf};
 ghost use Rattle.labels.specs.Labels.{Reps, Stale, Took, Unlabelled, Seeded, Cleared, Lowered, Kin};
-ghost use Rattle.labels.specs.Search.{Arg, argOf, placeOf, stamped, Visited, Clean, Found, Lone, Linked, Chained, Swept, Blank, Stated, Marked, Roll, Room, Back};
+ghost use Rattle.labels.specs.Search.{Arg, argOf, placeOf, Visited, Clean, Found, Lone, Linked, Chained, Swept, Blank, Stated, Marked, Roll, Room, Back};
 use crate::order::leaving_order;
 
 pub fn wide(x: u16) -> usize

@@ -47,9 +47,6 @@ frame-on s place line h = by-line (lineAt s place) h
     by-line Bad h = absurd (omega arith)
     by-line End h = absurd (omega arith)
 
-none-behind : (p s : List ℕ) (place line : ℕ) → length s ≤ place → frameAt (p ++ s) (length p + place) line .frame ≡ Over
-none-behind p s place line h = none-left (p ++ s) (length p + place) line (omega (arith, length-append p s))
-
 -- ---- nodes
 
 abbrev pub movedNodes : ℕ → Nodes → Nodes

@@ -9,6 +9,7 @@ use lib.ListN.{getD, set, length-set}
 use lib.Seq.{getD-set-same, getD-set-other}
 use Rattle.labels.specs.Search.{Next, placeOf, argOf, Arg, Marked}
 use Rattle.labels.specs.Labels.{Kin}
+use Rattle.labels.proofs.Chains.{Upto, upto-start, upto-more}
 use Rattle.turns.specs.Turns.{Free, Advanced, In, Bits, Put, Cursor, Sure, Cursors, Moved, SureAt, Covered}
 
 -- the arguments of what has a label have one
@@ -137,37 +138,24 @@ sure-kept {n} {a} {b} {label} {taken} K m w wl s = record {
       (m .sure (getD label w 0) h (K .own w wl h));
 }
 
--- e is on y's chain of readers, and what stands before e is sure
-pub record Passing (n : ℕ) (a b label taken cur : List ℕ) (y e : ℕ) : Type 0 where
-  pub hit : e < 2 * n → argOf a b e ≡ y
-  pub past : (i : ℕ) → i < e → i < 2 * n → argOf a b i ≡ y → SureAt n a b label taken cur (i / 2)
-
-pub passing-start : {n : ℕ} {a b : List ℕ} (label taken cur : List ℕ) {y e : ℕ} → Next (argOf a b) (2 * n) y 0 e → Passing n a b label taken cur y e
-passing-start label taken cur t = record { hit = t .hit; past = λ i h₁ h₂ h₃. absurd (t .skip i (omega arith) h₁ h₂ h₃) }
+-- along y's chain of readers: the slot of a place is sure
+abbrev pub Passing : ℕ → List ℕ → List ℕ → List ℕ → List ℕ → List ℕ → ℕ → ℕ → Type 0
+Passing n a b label taken cur y = Upto (argOf a b) (2 * n) y (λ i. SureAt n a b label taken cur (i / 2))
 
 pub passing-more : {n : ℕ} {a b label after taken cur ready cur′ ready′ : List ℕ} {y e : ℕ} (e′ : ℕ) → Kin n label after → Passing n a b label taken cur y e → Moved n a b label taken cur ready cur′ ready′ → SureAt n a b label taken cur′ (e / 2) → Next (argOf a b) (2 * n) y (e + 1) e′ → Passing n a b label taken cur′ y e′
-passing-more {n} {a} {b} {label} {taken} {cur′} {e} e′ K p m s t = record {
-  hit = t .hit;
-  past = λ i h₁ h₂ h₃. dite (ℕ-discrete i e)
-      (λ c. subst (λ (u : ℕ). SureAt n a b label taken cur′ (u / 2)) (sym c) s)
-      (λ c. dite (decLt i e) (λ d. sure-kept K m (i / 2) (omega arith) (p .past i d h₂ h₃)) (λ d. absurd (t .skip i (omega (arith, c, d)) h₁ h₂ h₃)));
-}
+passing-more {n} {a} {b} {label} {taken} {cur′} e′ K p m s t = upto-more (λ i. SureAt n a b label taken cur′ (i / 2)) e′ p (λ i h. sure-kept K m (i / 2) (omega arith)) s t
 
--- y is on l's chain of members, and what reads a member before y is sure
-pub record Walked (n : ℕ) (a b label taken cur : List ℕ) (l y : ℕ) : Type 0 where
-  pub hit : y < n → getD label y 0 ≡ l
-  pub past : (v w : ℕ) → v < y → v < n → getD label v 0 ≡ l → Arg n a b w v → SureAt n a b label taken cur w
+-- along l's chain of members: what reads the member is sure
+abbrev pub Walked : ℕ → List ℕ → List ℕ → List ℕ → List ℕ → List ℕ → ℕ → ℕ → Type 0
+Walked n a b label taken cur l = Upto (placeOf label) n l (λ v. (w : ℕ) → Arg n a b w v → SureAt n a b label taken cur w)
 
+-- a circle's chain starts at its label
 pub walked-start : {n : ℕ} {label after : List ℕ} (a b taken cur : List ℕ) (l : ℕ) → l < n → getD label l 0 ≡ l → Kin n label after → Walked n a b label taken cur l l
-walked-start a b taken cur l ll own K = record {
+walked-start {n} {label} a b taken cur l ll own K = upto-start (λ v. (w : ℕ) → Arg n a b w v → SureAt n a b label taken cur w) (record {
+  from = omega arith;
   hit = λ _. own;
-  past = λ v w h₁ h₂ h₃ h₄. absurd (omega (arith, K .least v h₂ (omega (arith, h₃, ll)), h₃, h₁));
-}
+  skip = λ v _ h₁ h₂ h₃. omega (arith, K .least v h₂ (omega (arith, h₃, ll)), h₃, h₁);
+})
 
 pub walked-more : {n : ℕ} {a b label after taken cur ready cur′ ready′ : List ℕ} {l y : ℕ} (y′ : ℕ) → Kin n label after → Walked n a b label taken cur l y → Moved n a b label taken cur ready cur′ ready′ → ((w : ℕ) → Arg n a b w y → SureAt n a b label taken cur′ w) → Next (placeOf label) n l (y + 1) y′ → Walked n a b label taken cur′ l y′
-walked-more {n} {a} {b} {label} {taken} {cur} {cur′} {l} {y} y′ K k m s t = record {
-  hit = t .hit;
-  past = λ v w h₁ h₂ h₃ h₄. dite (ℕ-discrete v y)
-      (λ c. s w (subst (λ (u : ℕ). Arg n a b w u) c h₄))
-      (λ c. dite (decLt v y) (λ d. sure-kept K m w (h₄ .0) (k .past v w d h₂ h₃ h₄)) (λ d. absurd (t .skip v (omega (arith, c, d)) h₁ h₂ h₃)));
-}
+walked-more {n} {a} {b} {label} {taken} {cur′} y′ K k m s t = upto-more (λ v. (w : ℕ) → Arg n a b w v → SureAt n a b label taken cur′ w) y′ k (λ v _ p w h. sure-kept K m w (h .0) (p w h)) s t

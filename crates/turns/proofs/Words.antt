@@ -1,16 +1,16 @@
 -- Words of bits: setting one, the least one, clearing it; and the ready circles in them. Assumes nothing.
-use Prim.Native.Nat.{ℕ, zero, suc, _+_, _*_, _-_, _/_, _%_, _^_, _≤_, _<_, min, max}
+use Prim.Native.Nat.{ℕ, zero, suc, _+_, _*_, _-_, _/_, _%_, _^_, _<_, max}
 use native.Mathlib.Omega.{arith}
 use native.Mathlib.Nat.{mod-eq-of-lt, one-mul, pow-succ'}
 use native.Mathlib.Decide.{ℕ-discrete, decLt}
 use mathlib.Core.Path.{_≡_, refl, sym, ap, subst, _∙_}
 use mathlib.Core.List.{List}
-use mathlib.Core.Logic.{_⊎_, inl, inr, ⊎-elim, dite}
+use mathlib.Core.Logic.{_⊎_, ⊎-elim, dite}
 use lib.ListN.{length, getD, set, length-set}
 use lib.Seq.{getD-set-same, getD-set-other}
-use lib.Bits.{bitAnd, bitOr, and-shr, or-shr, and-step, or-step, and-self, or-lt, and-le-l}
+use lib.Bits.{bitAnd, bitOr, or-shr, and-step, or-step, and-self, or-lt, and-le-l}
 use lib.Count.{trailingZeros, under}
-use lib.Pow.{pow-lt, pow-pos}
+use lib.Pow.{pow-lt}
 use Rattle.turns.specs.Turns.{digit, In, Bits, Put, Pulled}
 
 -- ---- digits
@@ -66,10 +66,6 @@ pub record Lowest (d w : ℕ) : Type 0 where
   pub below : (j : ℕ) → j < trailingZeros d w → digit j w ≡ 0
   pub cleared : digit (trailingZeros d w) (bitAnd w (w - 1)) ≡ 0
   pub others : (j : ℕ) → (j ≡ trailingZeros d w → ⊥) → digit j (bitAnd w (w - 1)) ≡ digit j w
-
-digits-by : (j : ℕ) (w v : ℕ) → w % 2 ≡ v % 2 → ((i : ℕ) → j ≡ suc i → digit i (w / 2) ≡ digit i (v / 2)) → digit j w ≡ digit j v
-digits-by zero w v e f = e
-digits-by (suc j) w v e f = f j refl
 
 lowest-odd : (d w : ℕ) → w % 2 ≡ 1 → Lowest (suc d) w
 lowest-odd d w e =

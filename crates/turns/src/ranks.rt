@@ -1,14 +1,11 @@
 ghost use mathlib.Core.Path.{_≡_};
 ghost use Prim.Native.Nat.{ℕ, _+_, _*_, _<_, _≤_};
-ghost use mathlib.Core.Logic.{_⊎_};
-ghost use lib.ListN.{getD, length, set};
+ghost use lib.ListN.{getD, length};
 ghost use lib.Seq.{sets};
-ghost use mathlib.Core.List.{[], _++_};
-ghost use Rattle.circles.specs.Ranked.{ranking, ranked};
-ghost use Rattle.circles.specs.Arrays.{Given, graphOf, over, Laid};
+ghost use Rattle.circles.specs.Arrays.{Given, graphOf};
 ghost use Rattle.labels.specs.Search.{Arg, Chained, argOf, Marked, Roll};
 ghost use Rattle.labels.specs.Labels.{Kin};
-ghost use Rattle.turns.specs.Turns.{Says, Settled, Free, Advanced, In, Bits, Put, Pulled, Cursors, Moved, SureAt, Turn, Outset, membersFrom, Agrees, Covered, Listed};
+ghost use Rattle.turns.specs.Turns.{Says, Settled, Free, Advanced, Bits, Put, Pulled, Cursors, Moved, SureAt, Turn, Outset, membersFrom, Agrees, Covered, Listed};
 use labels::wide;
 
 // Whether y, an argument of the circle l, is none, or in l, or in a taken circle.

@@ -1,8 +1,6 @@
 -- `circle_labels` meets its contract: labels by a member, then by the least. Assumes nothing.
 use native.Mathlib.Omega.{arith}
 use mathlib.Core.Path.{_∙_}
-use lib.ListN.{length}
-use Prim.Native.Nat.{_≤_}
 use Rattle.labels.specs.Search.{Stated, Marked, Roll}
 use Rattle.labels.proofs.Rolls.{roll-same}
 use Rattle.labels.proofs.Lowering.{labelled-stated, lowered-cleared, labels-are, roll-labels, kin}

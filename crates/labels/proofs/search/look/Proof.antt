@@ -1,9 +1,9 @@
 -- `look` meets its contract: the tests tell whether y is queued, and the marks leave room for it. Assumes nothing.
 use Rattle.labels.proofs.Stamps.{stamped-lt}
-use Rattle.labels.specs.Search.{stamped, skipped, added}
-use lib.ListN.{length, length-set}
-use mathlib.Core.Path.{_≡_, refl}
-use Prim.Native.Nat.{ℕ, _≤_, _<_}
+use Rattle.labels.specs.Search.{skipped, added}
+use lib.ListN.{length}
+use mathlib.Core.Path.{refl}
+use Prim.Native.Nat.{_<_}
 use native.Mathlib.Omega.{arith}
 use borrow.Author.Needs.{needs}
 use Rattle.labels.proofs.search.look.Statement.{statement}

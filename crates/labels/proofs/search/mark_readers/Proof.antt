@@ -1,10 +1,9 @@
 -- `mark_readers` meets its contract: the search's front, with one sweep a turn. Assumes nothing.
-use Prim.Native.Nat.{ℕ, _+_, _*_, _-_, _≤_, _<_}
+use Prim.Native.Nat.{ℕ, _*_, _-_, _≤_, _<_}
 use native.Mathlib.Omega.{arith}
 use mathlib.Core.Path.{_≡_, refl, sym, ap, subst, _∙_}
 use lib.ListN.{length, getD, set, length-set}
-use borrow.Author.Needs.{needs}
-use Rattle.labels.specs.Search.{Arg, Back, Room}
+use Rattle.labels.specs.Search.{Arg, Back}
 use Rattle.labels.proofs.Front.{Front, Done, Grew, done-kept, started, ended, found-before, front-le, front-room, done-more, lone}
 use Rattle.labels.proofs.Sweeps.{looks-front}
 use Rattle.labels.proofs.search.mark_readers.Statement.{statement}

@@ -1,12 +1,9 @@
 -- `mark_reads` meets its contract: the search's front, with two looks a turn. Assumes nothing.
-use Prim.Native.Nat.{ℕ, _+_, _*_, _-_, _≤_, _<_}
+use Prim.Native.Nat.{ℕ, _*_, _-_, _≤_, _<_}
 use native.Mathlib.Omega.{arith}
-use native.Mathlib.Nat.{le-refl, le-trans, le-of-lt}
 use mathlib.Core.Path.{_≡_, refl, sym, ap, subst, _∙_}
-use mathlib.Core.List.{List}
 use mathlib.Core.Logic.{inl, inr, ⊎-elim}
 use lib.ListN.{length, getD, set, length-set}
-use borrow.Author.Needs.{needs}
 use Rattle.labels.specs.Search.{Arg, Stated}
 use Rattle.labels.proofs.Rounds.{way-stated}
 use Rattle.labels.proofs.Front.{Front, Done, Looked, grew-join, done-kept, looked, started, ended, found-before, front-le, front-room, done-more, seen-at}

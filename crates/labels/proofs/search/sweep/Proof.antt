@@ -1,16 +1,16 @@
 -- `sweep` meets its contract: the looks along the chain of readers. Assumes nothing.
-use Rattle.labels.proofs.Sweeps.{Along, Kept, visited-kept, along-start, along-more}
-use Rattle.labels.proofs.Chains.{arg-of, at-readers}
-use Rattle.labels.specs.Search.{stamped, Looks, begin, look, Swept, Next, Room, Back, Arg, argOf}
-use lib.ListN.{length, getD, set}
-use mathlib.Core.Path.{_≡_, refl, sym, ap, subst, subst₂, _∙_}
-use Prim.Native.Nat.{ℕ, _+_, _*_, _/_, _-_, _≤_, _<_}
+use Rattle.labels.proofs.Sweeps.{Seen, Kept, visited-kept, seen-more}
+use Rattle.labels.proofs.Chains.{Upto, upto-start, arg-of, at-readers}
+use Rattle.labels.specs.Search.{Looks, begin, look, Next, Room, Back, Arg, argOf}
+use lib.ListN.{length, getD}
+use mathlib.Core.Path.{_≡_, refl, sym, subst, subst₂, _∙_}
+use Prim.Native.Nat.{ℕ, _+_, _*_, _/_, _-_}
 use native.Mathlib.Omega.{arith}
 use Rattle.labels.proofs.search.sweep.Statement.{statement}
 use Rattle.labels.proofs.search.sweep.Tie as tie
 
 abbrev Inv-loop : tie.InvT-loop
-Inv-loop n a b first next v x okay k mark₀ queue₀ tail t₀ e₀ mark queue t e = Looks n (Back (Arg n a b) v) x okay k mark₀ queue₀ tail mark queue t × Along n a b v x okay k mark e × Room n x mark queue t × (length mark ≡ length mark₀) × (length queue ≡ length queue₀)
+Inv-loop n a b first next v x okay k mark₀ queue₀ tail t₀ e₀ mark queue t e = Looks n (Back (Arg n a b) v) x okay k mark₀ queue₀ tail mark queue t × Upto (argOf a b) (2 * n) v (Seen x okay k mark) e × Room n x mark queue t × (length mark ≡ length mark₀) × (length queue ≡ length queue₀)
 
 abbrev μ-loop : tie.MeasureT-loop
 μ-loop n a b first next v x okay k mark₀ queue₀ tail t₀ e₀ mark queue t e = 2 * n - e
@@ -22,7 +22,7 @@ loop-holds : tie.Need-loop-holds Inv-loop μ-loop
 loop-holds c =
     let s = c .before .before .before .before .before .before .before in (
       begin,
-      along-start (s .args .x) (s .args .okay .now) (s .args .k) (s .args .mark .now) (subst (λ (u : ℕ). Next (argOf (s .args .a .now) (s .args .b .now)) (2 * s .args .n) (s .args .v) 0 u) (sym (c .wide .ensures)) (s .pre .2 .start (s .args .v) (s .pre .1))),
+      upto-start (Seen (s .args .x) (s .args .okay .now) (s .args .k) (s .args .mark .now)) (subst (λ (u : ℕ). Next (argOf (s .args .a .now) (s .args .b .now)) (2 * s .args .n) (s .args .v) 0 u) (sym (c .wide .ensures)) (s .pre .2 .start (s .args .v) (s .pre .1))),
       s .pre .4,
       refl,
       refl,
@@ -70,7 +70,7 @@ loop-again c =
     let s = start l in
     let el = k .before .before .before .loop-test .taken in (
       look (l .loop .e / 2) (arg-of (s .args .n) (s .args .a .now) (s .args .b .now) (l .loop .e) (s .args .v) (s .pre .0) el (s .pre .1) (l .loop .inv .1 .hit el)) (l .loop .inv .0) (k .look .ensures),
-      along-more (l .loop .e / 2) (c .wide2 .result) el refl (l .loop .inv .1) (kept k) (onward c),
+      seen-more (c .wide2 .result) el (l .loop .inv .1) (kept k) (onward c),
       kept k .room,
       k .look .kept .1 .1 .1 .1 .1 .0 ∙ l .loop .inv .3,
       k .look .kept .1 .1 .1 .1 .1 .1 .0 ∙ l .loop .inv .4,

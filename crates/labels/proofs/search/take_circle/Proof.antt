@@ -3,9 +3,8 @@ use lib.ListN.{length, set, length-set}
 use mathlib.Core.List.{List}
 use native.Mathlib.Omega.{arith}
 use Rattle.labels.proofs.Rounds.{clean-marks, clean-reps, found-lone, readers-stated, took}
-use Prim.Native.Nat.{ℕ, _≤_, _<_}
-use mathlib.Core.Path.{_≡_, refl, sym, ap, subst, _∙_}
-use borrow.Author.Needs.{needs}
+use Prim.Native.Nat.{ℕ, _≤_}
+use mathlib.Core.Path.{_∙_}
 use Rattle.labels.proofs.search.take_circle.Statement.{statement}
 use Rattle.labels.proofs.search.take_circle.Tie as tie
 

@@ -1,8 +1,7 @@
 -- `try_circle` meets its contract: the tests tell whether there is a circle to label. Assumes nothing.
 use mathlib.Core.Logic.{⊎-elim}
 use native.Mathlib.Omega.{arith}
-use Prim.Native.Nat.{ℕ, _<_}
-use mathlib.Core.Path.{_≡_, refl, sym, ap, subst, _∙_}
+use Prim.Native.Nat.{_<_}
 use borrow.Author.Needs.{needs}
 use lib.ListN.{getD}
 use Rattle.labels.specs.Search.{Stated}

@@ -1,7 +1,7 @@
 -- `visit` meets its contract: a number past the slots is no slot. Assumes nothing.
 use Rattle.labels.specs.Search.{skipped}
 use native.Mathlib.Nat.{not-le-of-lt}
-use mathlib.Core.Path.{_≡_, refl}
+use mathlib.Core.Path.{refl}
 use borrow.Author.Needs.{needs}
 use Rattle.labels.proofs.search.visit.Statement.{statement}
 use Rattle.labels.proofs.search.visit.Tie as tie

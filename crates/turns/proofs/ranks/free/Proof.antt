@@ -1,5 +1,5 @@
 -- `free` meets its contract: both arguments are asked. Assumes nothing.
-use mathlib.Core.Bool.{true, false, false≢true}
+use mathlib.Core.Bool.{false≢true}
 use borrow.Author.Needs.{needs}
 use Rattle.turns.proofs.ranks.free.Statement.{statement}
 use Rattle.turns.proofs.ranks.free.Tie as tie

@@ -5,7 +5,6 @@ use lib.Bits.{bitOr}
 use lib.Seq.{getD-set-other}
 use lib.ListN.{getD, set}
 use mathlib.Core.List.{List}
-use mathlib.Core.Path.{_≡_, refl, sym, ap, subst, _∙_}
 use native.Mathlib.Omega.{arith}
 use Prim.Native.Nat.{ℕ, _/_, _%_, _^_, _*_, _<_}
 use borrow.Author.Needs.{needs}

@@ -1,6 +1,6 @@
 -- `retire` meets its contract: what stands before e on the chain is sure. Assumes nothing.
-use Rattle.turns.proofs.Cursors.{moved-none, moved-join, Passing, passing-start, passing-more}
-use Rattle.labels.proofs.Chains.{arg-of, at-readers}
+use Rattle.turns.proofs.Cursors.{moved-none, moved-join, Passing, passing-more}
+use Rattle.labels.proofs.Chains.{upto-start, arg-of, at-readers}
 use Rattle.turns.specs.Turns.{Moved, SureAt}
 use Rattle.labels.specs.Search.{Next, argOf, Arg}
 use lib.ListN.{length}
@@ -25,7 +25,7 @@ shared-slice-read-wide c = omega (arith, c .before .before .before .before .befo
 loop-holds : tie.Need-loop-holds Inv-loop μ-loop
 loop-holds c = let s = c .before .before .before .before .before .before .before .before in let g = s .args in (
   moved-none (g .n) (s .pre .0 .2 .few) (g .a .now) (g .b .now) (g .label .now) (g .taken .now) (g .cur .now) (g .ready .now) (s .pre .1 .0) (s .pre .1 .1),
-  passing-start (g .label .now) (g .taken .now) (g .cur .now) (subst (λ (u : ℕ). Next (argOf (g .a .now) (g .b .now)) (2 * g .n) (g .y) 0 u) (sym (c .wide .ensures)) (s .pre .0 .1 .start (g .y) (s .pre .0 .0))),
+  upto-start (λ i. SureAt (g .n) (g .a .now) (g .b .now) (g .label .now) (g .taken .now) (g .cur .now) (i / 2)) (subst (λ (u : ℕ). Next (argOf (g .a .now) (g .b .now)) (2 * g .n) (g .y) 0 u) (sym (c .wide .ensures)) (s .pre .0 .1 .start (g .y) (s .pre .0 .0))),
   refl,
 )
 

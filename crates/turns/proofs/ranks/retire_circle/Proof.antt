@@ -59,7 +59,7 @@ same-length : tie.Need-same-length Inv-loop μ-loop
 same-length c = c .before .loop .inv .2
 
 returns : tie.Need-returns Inv-loop μ-loop
-returns c = let l = c .before .loop in (l .inv .0, λ y w h₁ h₂ h₃. l .inv .1 .past y w (omega (arith, h₁, c .loop-test .left)) h₁ h₂ h₃)
+returns c = let l = c .before .loop in (l .inv .0, λ y w h₁ h₂. l .inv .1 .past y (omega (arith, h₁, c .loop-test .left)) h₁ h₂ w)
 
 pub retire-circle-spec : {M : Type 1} → statement M
 retire-circle-spec =

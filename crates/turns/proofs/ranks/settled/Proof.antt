@@ -3,7 +3,7 @@ use Rattle.turns.specs.Turns.{Says, Settled}
 use lib.Dec.{eqb}
 use lib.ListN.{getD}
 use mathlib.Core.Logic.{inl, inr, ⊎-elim}
-use mathlib.Core.Bool.{true, false, true≢false}
+use mathlib.Core.Bool.{true, true≢false}
 use mathlib.Core.Path.{sym, ap, subst, _∙_}
 use native.Mathlib.Omega.{arith}
 use Prim.Native.Nat.{ℕ, _<_}
