@@ -15,6 +15,8 @@ use crate::tell::tell_begun;
 use crate::tell::tell_stepped;
 use update::Record;
 
+const DUST: u64 = 0xa5a5_a5a5_a5a5_a5a5;
+
 // Some of the nodes; all of them where there aren't as many.
 fn nodes_of<'a>(nodes: &'a [u8], from: usize, to: usize) -> &'a [u8] {
     if nodes.len() < to {
@@ -49,31 +51,22 @@ fn change(
     before: &mut [u64; 4096],
 ) -> Record {
     match change {
-        Change::Load {
-            from,
-            to,
-            owns: upto,
-        } => {
+        Change::Load(from, to, upto) => {
             let tree = nodes_of(nodes, from, to);
             let own = owns_of(owns, from, upto);
-            let begun = engine::load(table, r, tree, own, held, held_owns, sets, before);
-            tell_begun(b"load: ", begun)
+            let d = engine::load(table, r, tree, own, held, held_owns, sets, before);
+            tell_begun(b"load: ", d)
         }
         Change::Short => {
-            let mut few = [0u64; 4095];
-            let begun = engine::load(table, r, nodes, owns, held, held_owns, &mut few, before);
-            tell_begun(b"load: ", begun)
+            let mut few = [DUST; 4095];
+            let d = engine::load(table, r, nodes, owns, held, held_owns, &mut few, before);
+            tell_begun(b"load: ", d)
         }
-        Change::Replace {
-            point,
-            from,
-            to,
-            owns: behind,
-        } => {
+        Change::Replace(point, from, to, own) => {
             let part = nodes_of(nodes, from, to);
-            let own = owns_of(owns, behind, ALL);
-            let begun = engine::replace(table, r, point, part, own, held, held_owns, sets, before);
-            tell_begun(b"replace: ", begun)
+            let own = owns_of(owns, own, ALL);
+            let d = engine::replace(table, r, point, part, own, held, held_owns, sets, before);
+            tell_begun(b"replace: ", d)
         }
     }
 }
@@ -126,26 +119,7 @@ fn look(
     r
 }
 
-// A call, and the record that it leaves.
-fn act(
-    table: [u64; 2657],
-    r: Record,
-    call: Call,
-    nodes: &[u8],
-    owns: &[u64],
-    held: &mut [u8; 512],
-    held_owns: &mut [u64; 512],
-    sets: &mut [u64; 4096],
-    before: &mut [u64; 4096],
-) -> Record {
-    let t = &table;
-    match call {
-        Call::Change(c) => change(t, r, c, nodes, owns, held, held_owns, sets, before),
-        Call::Work(w) => work(t, r, w, &*held, &*held_owns, sets, &*before),
-        Call::Look(l) => look(t, r, l, &*held, &*held_owns, &*sets, &*before),
-    }
-}
-
+// The calls of a tape on a day of so many nodes, over one set of memory, in which something lies at first.
 pub fn perform(
     table: [u64; 2657],
     tape: &[u8],
@@ -153,16 +127,34 @@ pub fn perform(
     owns: &[u64],
     count: usize,
     point: usize,
-    held: &mut [u8; 512],
-    held_owns: &mut [u64; 512],
-    sets: &mut [u64; 4096],
-    before: &mut [u64; 4096],
 ) {
+    let mut held = [0xa5u8; 512];
+    let mut held_owns = [DUST; 512];
+    let mut sets = [DUST; 4096];
+    let mut before = [DUST; 4096];
     let mut r = Record::empty();
-    let mut i: usize = 0;
-    while i < tape.len() {
-        let c = call_of(tape[i], count, point);
-        i += 1;
-        r = act(table, r, c, nodes, owns, held, held_owns, sets, before);
+    for i in 0..tape.len() {
+        let call = call_of(tape[i], count, point);
+        match call {
+            Call::Change(c) => {
+                r = change(
+                    &table,
+                    r,
+                    c,
+                    nodes,
+                    owns,
+                    &mut held,
+                    &mut held_owns,
+                    &mut sets,
+                    &mut before,
+                );
+            }
+            Call::Work(w) => {
+                r = work(&table, r, w, &held, &held_owns, &mut sets, &before);
+            }
+            Call::Look(l) => {
+                r = look(&table, r, l, &held, &held_owns, &sets, &before);
+            }
+        }
     }
 }

@@ -15,40 +15,13 @@ use tell::say;
 use texts::ReadTable;
 use texts::read_table;
 
-// What lies in lent memory at first is nobody's business.
-const DUST: u64 = 0xa5a5_a5a5_a5a5_a5a5;
-
-// The calls of a day, over one set of memory: those that a table of zeros refuses; those without a tree, and loads that are refused; those with a record beyond its
-// limits; the load, those that it refuses while it is open, its rounds, and those that are refused then; the same of a replacement.
+// The calls of a day: those that a table of zeros refuses; those without a tree, and loads that are refused; those with a record beyond its limits; the load, those that
+// it refuses while it is open, its rounds, and those that are refused then; the same of a replacement.
 fn call_day(table: [u64; 2657], nodes: &[u8], owns: &[u64], count: usize, point: usize) {
-    let mut held = [0xa5u8; 512];
-    let mut held_owns = [DUST; 512];
-    let mut sets = [DUST; 4096];
-    let mut before = [DUST; 4096];
-    perform(
-        [0u64; 2657],
-        b"k lps1vr",
-        nodes,
-        owns,
-        count,
-        point,
-        &mut held,
-        &mut held_owns,
-        &mut sets,
-        &mut before,
-    );
-    perform(
-        table,
-        b" ps1vr hfbm olps1vrnk lk lrpk 0s1vek eusk a gwxtk pk sss11ek a",
-        nodes,
-        owns,
-        count,
-        point,
-        &mut held,
-        &mut held_owns,
-        &mut sets,
-        &mut before,
-    );
+    let zeros = [0u64; 2657];
+    perform(zeros, b"klps1vrk ", nodes, owns, count, point);
+    let tape = b"ps1vr hfbm olps1vrnk lk lrpk 0s1vek eusk a gwxtk pk sss11ek a";
+    perform(table, tape, nodes, owns, count, point);
 }
 
 // A day's text has its table and its tree; the leaf at the point is replaced.

@@ -14,20 +14,16 @@ pub fn mix(mark: u64, word: u64) -> u64 {
 
 fn mix_bytes(mark: u64, bytes: &[u8]) -> u64 {
     let mut mixed = mark;
-    let mut i: usize = 0;
-    while i < bytes.len() {
+    for i in 0..bytes.len() {
         mixed = mix(mixed, wide(bytes[i]));
-        i += 1;
     }
     mixed
 }
 
 fn mix_words(mark: u64, words: &[u64]) -> u64 {
     let mut mixed = mark;
-    let mut i: usize = 0;
-    while i < words.len() {
+    for i in 0..words.len() {
         mixed = mix(mixed, words[i]);
-        i += 1;
     }
     mixed
 }

@@ -38,11 +38,9 @@ fn read_all(
     before: &[u64; 4096],
 ) -> u64 {
     let mut mark = FIRST;
-    let mut i: usize = 0;
-    while i < 4096 {
+    for i in 0..4096 {
         let reading = engine::read(table, record, held, held_owns, sets, before, i);
         mark = mix(mark, set_of(reading));
-        i += 1;
     }
     mark
 }

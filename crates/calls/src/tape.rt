@@ -1,20 +1,13 @@
 // The calls of a day as a tape, a letter each.
 use std::num::wrapping_sub_usize;
 
-// Some of a day's nodes with some of its own sets: for a load, for one with a set too few lent, for a replacement at a point.
 pub enum Change {
-    Load {
-        from: usize,
-        to: usize,
-        owns: usize,
-    },
+    // a load of the day's nodes from a place to another, with own sets from the first to a third
+    Load(usize, usize, usize),
+    // a load with a set too few lent
     Short,
-    Replace {
-        point: usize,
-        from: usize,
-        to: usize,
-        owns: usize,
-    },
+    // at a point, by the nodes from a place to another, with own sets from a third on
+    Replace(usize, usize, usize, usize),
 }
 
 // What works on an open update.
@@ -48,37 +41,19 @@ const LAST: usize = 512;
 
 pub const ALL: usize = 513;
 
-fn load_of(from: usize, to: usize, owns: usize) -> Call {
-    Call::Change(Change::Load {
-        from: from,
-        to: to,
-        owns: owns,
-    })
-}
-
-fn replace_of(point: usize, from: usize, to: usize, owns: usize) -> Call {
-    Call::Change(Change::Replace {
-        point: point,
-        from: from,
-        to: to,
-        owns: owns,
-    })
-}
-
-fn change_of(letter: u8, nodes: usize, point: usize) -> Call {
+fn change_of(letter: u8, nodes: usize, point: usize) -> Change {
     let last = wrapping_sub_usize(nodes, 1);
     match letter {
-        b'l' => load_of(0, nodes, nodes),
-        b'f' => load_of(0, nodes, last),
-        b'b' => load_of(LAST, ALL, ALL),
-        b'm' => load_of(0, ALL, ALL),
-        b'h' => Call::Change(Change::Short),
-        b'p' => replace_of(point, last, nodes, LAST),
-        b'g' => replace_of(nodes, last, nodes, LAST),
-        b'w' => replace_of(point, 0, 1, LAST),
-        b'x' => replace_of(point, LAST, ALL, LAST),
-        b't' => replace_of(point, 510, LAST, 511),
-        _ => Call::Look(Look::Line),
+        b'f' => Change::Load(0, nodes, last),
+        b'b' => Change::Load(LAST, ALL, ALL),
+        b'm' => Change::Load(0, ALL, ALL),
+        b'h' => Change::Short,
+        b'p' => Change::Replace(point, last, nodes, LAST),
+        b'g' => Change::Replace(nodes, last, nodes, LAST),
+        b'w' => Change::Replace(point, 0, 1, LAST),
+        b'x' => Change::Replace(point, LAST, ALL, LAST),
+        b't' => Change::Replace(point, 510, LAST, 511),
+        _ => Change::Load(0, nodes, nodes),
     }
 }
 
@@ -100,6 +75,7 @@ pub fn call_of(letter: u8, nodes: usize, point: usize) -> Call {
         b'k' => Call::Look(Look::Memory),
         b'n' => Call::Look(Look::Empty),
         b'o' => Call::Look(Look::Beyond),
-        _ => change_of(letter, nodes, point),
+        b' ' => Call::Look(Look::Line),
+        _ => Call::Change(change_of(letter, nodes, point)),
     }
 }
