@@ -1,4 +1,4 @@
-// A tape's calls, one after the other over the same record and memory.
+// A tape's calls, each with its line.
 use crate::lending::run_lent;
 use crate::mark::tell_memory;
 use crate::reading::read;
@@ -15,6 +15,7 @@ use crate::tell::tell_begun;
 use crate::tell::tell_stepped;
 use update::Record;
 
+// What lies in lent memory at first.
 const DUST: u64 = 0xa5a5_a5a5_a5a5_a5a5;
 
 // Some of the nodes; all of them where there aren't as many.
@@ -39,6 +40,7 @@ fn owns_of<'a>(owns: &'a [u64], from: usize, to: usize) -> &'a [u64] {
     &owns[from..to]
 }
 
+// A load or a replacement, and the record that it leaves.
 fn change(
     table: &[u64; 2657],
     r: Record,
@@ -71,6 +73,7 @@ fn change(
     }
 }
 
+// A step or a run, and the record that it leaves.
 fn work<'a>(
     table: &'a [u64; 2657],
     r: Record,
@@ -93,12 +96,14 @@ fn work<'a>(
     }
 }
 
+// A record with a node more than its limit.
 fn beyond() -> Record {
     let mut r = Record::empty();
     r.nodes = 513;
     r
 }
 
+// A look, and the record to go on with.
 fn look(
     table: &[u64; 2657],
     r: Record,
@@ -119,7 +124,7 @@ fn look(
     r
 }
 
-// The calls of a tape on a day of so many nodes, over one set of memory, in which something lies at first.
+// The calls of a tape on a day of so many nodes, one after the other over one record and one set of memory.
 pub fn perform(
     table: [u64; 2657],
     tape: &[u8],

@@ -1,5 +1,6 @@
-// Calls all that the engine hands out, on two days: session A's, and one of a tree of 512 nodes. Each line says what a call answers, and behind a bar the record that it
-// leaves. `stdout` has the lines that the paper and the recorded sessions ask for, so a call that answers otherwise is found here, by running it.
+// Makes every public call of the engine on two days, session A's and one of a tree of 512 nodes, because what is only proved has never been run. Each line says what a call
+// answers and, behind a bar, the record that it leaves; a line of memory is a mark of all that is lent, which no refused call may change. `stdout` has the right lines, from
+// the paper, the recorded sessions and a program that isn't this one.
 mod act;
 mod lending;
 mod mark;
@@ -15,16 +16,16 @@ use tell::say;
 use texts::ReadTable;
 use texts::read_table;
 
-// The calls of a day: those that a table of zeros refuses; those without a tree, and loads that are refused; those with a record beyond its limits; the load, those that
-// it refuses while it is open, its rounds, and those that are refused then; the same of a replacement.
+// The calls of a day, as `tape` spells them: with a table of zeros; without a tree; loads that are refused; with a record beyond its limits; the load; what is refused while
+// it is open; its rounds; what is refused then; readings; replacements that are refused; one that isn't; its rounds, and readings.
 fn call_day(table: [u64; 2657], nodes: &[u8], owns: &[u64], count: usize, point: usize) {
     let zeros = [0u64; 2657];
     perform(zeros, b"klps1vrk ", nodes, owns, count, point);
-    let tape = b"ps1vr hfbm olps1vrnk lk lrpk 0s1vek eusk a gwxtk pk sss11ek a";
+    let tape = b"kps1vr hfbm olps1vrnk lk lrpk 0s1vek eusk a gwxtk pk sss11ek a";
     perform(table, tape, nodes, owns, count, point);
 }
 
-// A day's text has its table and its tree; the leaf at the point is replaced.
+// A day's text has its table and its tree, of at most 512 nodes; what stands behind them is no production of either table. The leaf at the point is replaced.
 fn tell_text(text: &[u8], point: usize) {
     let mut table = [0u64; 2657];
     let mut nodes = [3u8; ALL];

@@ -7,7 +7,7 @@ use std::num::wrapping_add_u64;
 // A row's mark before its first word.
 pub const FIRST: u64 = 1;
 
-// One word more: other words, or the same ones in another order, give another mark.
+// One word more, at its own place in the row.
 pub fn mix(mark: u64, word: u64) -> u64 {
     wrapping_add_u64(mark << 5 | mark >> 59, word)
 }

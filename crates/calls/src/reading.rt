@@ -20,7 +20,7 @@ pub fn read(
     tell_reading(instance, reading);
 }
 
-// The set read; what is refused counts as no set could.
+// The set read; a refusal counts as all reasons at once, which no set of these days has.
 fn set_of(reading: Reading) -> u64 {
     match reading {
         Reading::Set(set) => set,
@@ -28,7 +28,7 @@ fn set_of(reading: Reading) -> u64 {
     }
 }
 
-// Each instance there can be, as one number.
+// All that can be read, as one number.
 fn read_all(
     table: &[u64; 2657],
     record: Record,

@@ -1,12 +1,13 @@
 // The calls of a day as a tape, a letter each.
 use std::num::wrapping_sub_usize;
 
+// What may change the held tree, by places in the day's nodes and own sets.
 pub enum Change {
-    // a load of the day's nodes from a place to another, with own sets from the first to a third
+    // a load of the nodes from one place to another, with the own sets from the first place to a third
     Load(usize, usize, usize),
     // a load with a set too few lent
     Short,
-    // at a point, by the nodes from a place to another, with own sets from a third on
+    // a replacement at a point by the nodes from one place to another, with the own sets from a third on
     Replace(usize, usize, usize, usize),
 }
 
@@ -36,7 +37,7 @@ pub enum Call {
 // More rounds than an update of these days takes.
 const ENOUGH: u64 = 1_000_000;
 
-// Behind the nodes of a day, of which there are 512 at most, stands a production that no table here has, with an empty own set.
+// Behind the places of a day's 512 nodes stands a production that its table doesn't have, with an empty own set.
 const LAST: usize = 512;
 
 pub const ALL: usize = 513;
