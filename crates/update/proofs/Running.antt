@@ -18,7 +18,7 @@ use Rattle.update.specs.declared.Record.{Record}
 use Rattle.update.specs.Records.{isLoad, shut, working}
 use Rattle.update.specs.Within.{WithinLimits}
 use Rattle.update.specs.Steps.{sownOf, changedOf, Outcome, round, done, onward, Made, stepOf, paused, finished, Ran, runOf}
-use Rattle.update.specs.Demands.{Begins, ranOf, wholeOf, Phase, between, climbing, Stands, NextRound, NthRound, EachRound, Pauses, AllPause, AllFinish, RunsOn, LeastAtDone, LoadIsKept, LoadEvaluates, Below, NeverAtLimits, NeverBeyond, recordAt}
+use Rattle.update.specs.Course.{Begins, ranOf, wholeOf, Phase, between, climbing, Stands, NextRound, NthRound, EachRound, Pauses, AllPause, AllFinish, RunsOn, LeastAtDone, LoadIsKept, LoadEvaluates, Below, NeverAtLimits, NeverBeyond, recordAt}
 use Rattle.update.proofs.Within.{beyond-means}
 use Rattle.update.proofs.Stepping.{Ended, step-law}
 use Rattle.update.proofs.Scheduling.{rounds-mono, rounds-behind, one-schedule}

@@ -27,7 +27,7 @@ use Rattle.climb.proofs.Storing.{length-stores, in-memory}
 use Rattle.update.specs.declared.Record.{Record}
 use Rattle.update.specs.Records.{shut, working}
 use Rattle.update.specs.Steps.{sownOf, survives, changedOf, roundNumber, fromOf, toOf, closedOf, roundRecord, round, done, Made, roundMade, doneMade, dueFrom, stepOf}
-use Rattle.update.specs.Demands.{Begins, Phase, between, climbing, Stands, NextRound, recordAt}
+use Rattle.update.specs.Course.{Begins, Phase, between, climbing, Stands, NextRound, recordAt}
 
 -- ---- the last round of a climb is the one that closes it
 
