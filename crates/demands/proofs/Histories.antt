@@ -28,7 +28,7 @@ use Rattle.update.proofs.Running as running
 use Rattle.update.proofs.Ready.{circles, lawful, in-rank, Ready, begins, Settled}
 use Rattle.update.proofs.Openings.{words-exchanged, ready-load, ready-replacement}
 use Rattle.demands.specs.Engine.{Engine, ours}
-use Rattle.demands.specs.History.{Worked, Opening, loads, replaces, History, finishes}
+use Rattle.demands.specs.History.{WorkedToDone, Opening, loads, replaces, History, finishes}
 use Rattle.demands.proofs.Rows.{ended}
 
 module _ {t ns owns : List ℕ} {r : Record} {m : Memory} (q : Ready t ns owns r m) where
@@ -69,7 +69,7 @@ settled-as : {t ns owns : List ℕ} {r r′ : Record} {m m′ : Memory} (q : Rea
     → r′ ≡ ranOf (system t ns owns) (circles t ns owns) r (m .sets) n .next → m′ ≡ withSets m (ranOf (system t ns owns) (circles t ns owns) r (m .sets) n .sets) → Settled t ns owns r′ m′
 settled-as q n h a b = rw (a, b) (finished-settled q n h)
 
-pub settled : {t ns owns : List ℕ} {r r′ : Record} {m m′ : Memory} {c e x : ℕ} → Ready t ns owns r m → Worked ours t r m c e x r′ m′ → Settled t ns owns r′ m′
+pub settled : {t ns owns : List ℕ} {r r′ : Record} {m m′ : Memory} {c e x : ℕ} → Ready t ns owns r m → WorkedToDone ours t r m c e x r′ m′ → Settled t ns owns r′ m′
 settled q w =
     let d = ended q w in
     settled-as q (d .budget) (d .enough) (d .next) (d .memory)

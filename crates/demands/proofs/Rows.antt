@@ -20,7 +20,7 @@ use Rattle.update.specs.Records.{isOpen, isLoad, beyond}
 use Rattle.update.specs.Memories.{Memory}
 use Rattle.update.specs.Refusals.{heldRefusal, stepRefusal}
 use Rattle.update.specs.Within.{Roomy}
-use Rattle.update.specs.Steps.{sownOf, survives, changedOf, dueFrom, doneMade, Outcome, round, done, stepOf, onward, Ending, paused, finished, Ran, runOf}
+use Rattle.update.specs.Steps.{sownOf, survives, changedOf, dueFrom, doneMade, Outcome, round, done, stepOf, continued, Ending, paused, finished, Ran, runOf}
 use Rattle.update.specs.Calls.{leaving, Ranged, ranged, unless, systemOf, circlesOf, withSets, stepLeft, runLeft, stepCall, runCall}
 use Rattle.update.specs.Course.{ranOf, wholeOf}
 use Rattle.update.proofs.Within.{short-means}
@@ -29,7 +29,7 @@ use Rattle.update.proofs.Running.{pauses, finishes, runs-on, never-beyond}
 use Rattle.update.proofs.Ready.{circles, Ready, begins}
 use Rattle.update.proofs.Openings.{parts}
 use Rattle.demands.specs.Engine.{ours}
-use Rattle.demands.specs.History.{Working, begun, stepped, ran, Worked, by-step, by-run}
+use Rattle.demands.specs.History.{Working, at-start, and-step, and-run, WorkedToDone, by-step, by-run}
 
 -- ---- a step looks at the before values alone, not at the buffer behind them
 
@@ -46,7 +46,7 @@ pub step-alike : (S : System) (R : List (List ℕ)) (r : Record) (b b′ s : Lis
 unfolding stepOf doneMade
 step-alike S R r b b′ s e = rw (due-alike S R r b b′ s e, changed-alike S r b b′ s e)
 
-again : (o : Outcome) (r : Record) (s : List ℕ) (f g : Record → List ℕ → Ran) → f r s ≡ g r s → onward o r s f ≡ onward o r s g
+again : (o : Outcome) (r : Record) (s : List ℕ) (f g : Record → List ℕ → Ran) → f r s ≡ g r s → continued o r s f ≡ continued o r s g
 again (round a k c d) r s f g e = rw e
 again (done a c d) r s f g e = refl
 
@@ -215,12 +215,12 @@ module _ {t ns owns : List ℕ} {r : Record} {m : Memory} (q : Ready t ns owns r
 
   pub amid : {n : ℕ} {r′ : Record} {m′ : Memory} → Working ours t r m n r′ m′ → Amid n r′ m′
   unfolding runOf
-  amid begun = record { time = zero-le; next = refl; memory = refl }
-  amid {n = suc n} {r′} {m′} (stepped {least = least} {k = k} {size = size} {closed = closed} {r = r₁} {m = m₁} w h) =
+  amid at-start = record { time = zero-le; next = refl; memory = refl }
+  amid {n = suc n} {r′} {m′} (and-step {least = least} {k = k} {size = size} {closed = closed} {r = r₁} {m = m₁} w h) =
       rw (add-one n) at (pauses-amid n 1 1 r′ m′ (behind-round n least k size closed r₁ r′ m₁ m′ (amid w) h))
-  amid {r′ = r′} {m′ = m′} (ran {n = n} {k = k} {r = r₁} {m = m₁} budget w h) = pauses-amid n budget k r′ m′ (behind-run n budget k paused r₁ r′ m₁ m′ (amid w) h)
+  amid {r′ = r′} {m′ = m′} (and-run {n = n} {k = k} {r = r₁} {m = m₁} budget w h) = pauses-amid n budget k r′ m′ (behind-run n budget k paused r₁ r′ m₁ m′ (amid w) h)
 
-  pub ended : {c e x : ℕ} {r′ : Record} {m′ : Memory} → Worked ours t r m c e x r′ m′ → Ended c e x r′ m′
+  pub ended : {c e x : ℕ} {r′ : Record} {m′ : Memory} → WorkedToDone ours t r m c e x r′ m′ → Ended c e x r′ m′
   ended {c} {e} {x} {r′} {m′} (by-step {n = n} {r = r₁} {m = m₁} w h) = finishes-ended n 1 0 c e x r′ m′ (behind-done n c e x r₁ r′ m₁ m′ (amid w) h)
   ended {c} {e} {x} {r′} {m′} (by-run {n = n} {k = k} {r = r₁} {m = m₁} budget w h) =
       finishes-ended n budget k c e x r′ m′ (behind-run n budget k (finished c e x) r₁ r′ m₁ m′ (amid w) h)

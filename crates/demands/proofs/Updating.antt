@@ -35,9 +35,9 @@ use Rattle.update.proofs.Stepping.{Ended, step-law}
 use Rattle.update.proofs.Running as running
 use Rattle.update.proofs.Ready.{circles, lawful, in-rank, Ready, begins, Settled}
 use Rattle.demands.specs.Engine.{ours}
-use Rattle.demands.specs.History.{Working, begun, ran, Worked}
+use Rattle.demands.specs.History.{Working, at-start, and-run, WorkedToDone}
 use Rattle.demands.specs.Asked.{LeastSets, OneLeast}
-use Rattle.demands.specs.Work.{dueBy, climbBy, overDue, Climbing, Turn, Makes}
+use Rattle.demands.specs.Work.{dueBy, climbBy, overDue, Climbing, RoundTurn, Makes}
 use Rattle.demands.specs.Demands.{WorkedOn, Counts, Concludes, Update}
 use Rattle.demands.proofs.Due.{due-exactly}
 use Rattle.demands.proofs.Rows.{Amid, amid, ended, step-there, run-there}
@@ -182,7 +182,7 @@ module _ {t ns owns : List ℕ} {r : Record} {m : Memory} (q : Ready t ns owns r
 
   -- ---- turns
 
-  to-turn : (i k n : ℕ) → Scheduled S R (sownOf r) b i k n → Turn (length R) due climb i k n
+  to-turn : (i k n : ℕ) → Scheduled S R (sownOf r) b i k n → RoundTurn (length R) due climb i k n
   to-turn i k n s = record {
     rank = s .rank;
     worked = sym (due-is i (s .rank)) ∙ s .worked;
@@ -191,7 +191,7 @@ module _ {t ns owns : List ℕ} {r : Record} {m : Memory} (q : Ready t ns owns r
     time = omega (arith, rounds-is i (omega (arith, s .rank)), s .time);
   }
 
-  from-turn : (i k n : ℕ) → Turn (length R) due climb i k n → Scheduled S R (sownOf r) b i k n
+  from-turn : (i k n : ℕ) → RoundTurn (length R) due climb i k n → Scheduled S R (sownOf r) b i k n
   from-turn i k n s = record {
     rank = s .rank;
     worked = due-is i (s .rank) ∙ s .worked;
@@ -209,7 +209,7 @@ module _ {t ns owns : List ℕ} {r : Record} {m : Memory} (q : Ready t ns owns r
   places : (n : ℕ) → n ≤ whole → length (run n .sets) ≡ length (m .sets)
   places n l = running.pauses S R r (m .sets) (begins q) n l .stands .places
 
-  makes : (n : ℕ) (r₁ : Record) (m₁ : Memory) → Amid q n r₁ m₁ → (i k : ℕ) → Turn (length R) due climb i k n → Makes S (C i) v (climb i) k m₁ (stepCall t m₁ r₁)
+  makes : (n : ℕ) (r₁ : Record) (m₁ : Memory) → Amid q n r₁ m₁ → (i k : ℕ) → RoundTurn (length R) due climb i k n → Makes S (C i) v (climb i) k m₁ (stepCall t m₁ r₁)
   makes n r₁ m₁ a i k s =
       let f = from-turn i k n s in
       let d = running.each-round S R r (m .sets) (begins q) i k n f in
@@ -253,7 +253,7 @@ module _ {t ns owns : List ℕ} {r : Record} {m : Memory} (q : Ready t ns owns r
       ext-getD 0 (run n .sets) (run whole .sets) (f .places ∙ sym (places whole (le-refl whole)))
       (λ x k. ap (λ (u : Assignment). u x) (f .value ∙ after-all ∙ sym last-sets))
 
-  counts : {c e x : ℕ} {r′ : Record} {m′ : Memory} → Worked ours t r m c e x r′ m′
+  counts : {c e x : ℕ} {r′ : Record} {m′ : Memory} → WorkedToDone ours t r m c e x r′ m′
       → Counts c e x (overDue due (λ i. 1) (length R)) (overDue due (λ i. length (C i) * climb i) (length R)) changed
   counts w =
       let d = ended q w in
@@ -310,7 +310,7 @@ module _ {t ns owns : List ℕ} {r : Record} {m : Memory} (q : Ready t ns owns r
   unfolding runOf
   opening-run n l =
       let p = running.pauses S R r (m .sets) (begins q) n l in
-      run-there q 0 n r m (amid q begun)
+      run-there q 0 n r m (amid q at-start)
       ∙ ap (λ (x : ℕ). leaving (ranged x (run n .ending)) (run n .next) (withSets m (run n .sets))) (p .rounds)
       ∙ ap (λ (x : Ending). leaving (ranged n x) (run n .next) (withSets m (run n .sets))) (p .ending)
 
@@ -328,9 +328,9 @@ module _ {t ns owns : List ℕ} {r : Record} {m : Memory} (q : Ready t ns owns r
   is-worked i h =
       let l = rank-of i h in
       let n = overDue due climb i in
-      let f : Turn (length R) due climb i 1 (0 + n) = record { rank = l; worked = h; some = omega arith; few = climbing i l .takes .some; time = omega arith } in
+      let f : RoundTurn (length R) due climb i 1 (0 + n) = record { rank = l; worked = h; some = omega arith; few = climbing i l .takes .some; time = omega arith } in
       let k : n ≤ whole = omega (arith, one-schedule S R (sownOf r) b .within i 1 (0 + n) (from-turn i 1 (0 + n) f)) in
-      let w : Working ours t r m (0 + n) (run n .next) (withSets m (run n .sets)) = ran n begun (opening-run n k) in
+      let w : Working ours t r m (0 + n) (run n .next) (withSets m (run n .sets)) = and-run n at-start (opening-run n k) in
       record {
         n = 0 + n;
         k = 1;

@@ -55,7 +55,7 @@ pub record Climbing (S : System) (C : List ℕ) (v : Assignment) (rounds : ℕ) 
 
 -- due circles come one after the other by rank, each with all its rounds: after n rounds it is the turn of round k of circle i. climb i are the rounds
 -- of circle i, of `count` circles
-pub record Turn (count : ℕ) (due : ℕ → Bool) (climb : ℕ → ℕ) (i k n : ℕ) : Type 0 where
+pub record RoundTurn (count : ℕ) (due : ℕ → Bool) (climb : ℕ → ℕ) (i k n : ℕ) : Type 0 where
   pub rank : i < count
   pub worked : due i ≡ true
   pub some : 1 ≤ k

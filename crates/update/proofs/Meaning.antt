@@ -20,20 +20,20 @@ use Rattle.update.specs.declared.Record.{Record}
 use Rattle.update.specs.Records.{isLoad}
 use Rattle.update.specs.Memories.{belowPoint}
 use Rattle.update.specs.Steps.{sownOf, survives, changedOf, runOf}
-use Rattle.update.specs.Meaning.{Sown, loads, synthesized, below, SownExactly, Changed, ChangedExactly, LoadChanges, FirstIsLeast, NoBudget}
+use Rattle.update.specs.Meaning.{Sown, in-load, at-point, below, SownExactly, Changed, ChangedExactly, LoadChanges, FirstIsLeast, NoBudget}
 
 -- ---- sown
 
 sown-to : (r : Record) (x : ℕ) → sownOf r x ≡ true → Sown r x
 unfolding sownOf belowPoint
 sown-to r x h = ⊎-elim
-    (λ a. ⊎-elim loads (λ p. let q = and-is p in synthesized (eqb-true (nodeOf x) (r .point) (q .0)) (ltb-true (indexOf x) 4 (q .1))) (or-parts (isLoad (r .«open»)) _ a))
+    (λ a. ⊎-elim in-load (λ p. let q = and-is p in at-point (eqb-true (nodeOf x) (r .point) (q .0)) (ltb-true (indexOf x) 4 (q .1))) (or-parts (isLoad (r .«open»)) _ a))
     (λ p. let q = and-is p in below (ltb-true (r .point) (nodeOf x) (q .0)) (ltb-true (nodeOf x) (r .point + r .part) (q .1))) (or-parts _ _ h)
 
 sown-from : (r : Record) (x : ℕ) → Sown r x → sownOf r x ≡ true
 unfolding sownOf belowPoint
-sown-from r x (loads h) = rw h
-sown-from r x (synthesized e l) = rw (eq-eqb (nodeOf x) (r .point) e, lt-ltb (indexOf x) 4 l, or-true (isLoad (r .«open»)))
+sown-from r x (in-load h) = rw h
+sown-from r x (at-point e l) = rw (eq-eqb (nodeOf x) (r .point) e, lt-ltb (indexOf x) 4 l, or-true (isLoad (r .«open»)))
 sown-from r x (below l m) = rw (lt-ltb (r .point) (nodeOf x) l, lt-ltb (nodeOf x) (r .point + r .part) m)
     (or-true (isLoad (r .«open») || (eqb (nodeOf x) (r .point) && ltb (indexOf x) 4)))
 

@@ -17,8 +17,8 @@ use Rattle.climb.proofs.Finishing.{final-least, all-final, load-most, load-kept
 use Rattle.update.specs.declared.Record.{Record}
 use Rattle.update.specs.Records.{isLoad, shut, working}
 use Rattle.update.specs.Within.{WithinLimits}
-use Rattle.update.specs.Steps.{sownOf, changedOf, Outcome, round, done, onward, Made, stepOf, paused, finished, Ran, runOf}
-use Rattle.update.specs.Course.{Begins, ranOf, wholeOf, Phase, between, climbing, Stands, NextRound, NthRound, EachRound, Pauses, AllPause, AllFinish, RunsOn, LeastAtDone, LoadIsKept, LoadEvaluates, Below, NeverAtLimits, NeverBeyond, recordAt}
+use Rattle.update.specs.Steps.{sownOf, changedOf, Outcome, round, done, continued, Made, stepOf, paused, finished, Ran, runOf}
+use Rattle.update.specs.Course.{Begins, ranOf, wholeOf, Phase, between, climbing, StandsAfter, NextRound, NthRound, EachRound, Pauses, AllPause, AllFinish, RunsOn, LeastAtDone, LoadIsKept, LoadEvaluates, Below, NeverAtLimits, NeverBeyond, recordAt}
 use Rattle.update.proofs.Within.{beyond-means}
 use Rattle.update.proofs.Stepping.{Ended, step-law}
 use Rattle.update.proofs.Scheduling.{rounds-mono, rounds-behind, one-schedule}
@@ -38,7 +38,7 @@ record DoneAt (S : System) (R : List (List ℕ)) (r : Record) (before : List ℕ
 record PausedAt (S : System) (R : List (List ℕ)) (r : Record) (before : List ℕ) (t n : ℕ) (a : Ran) : Type 0 where
   rounds : a .rounds ≡ n
   ending : a .ending ≡ paused
-  stands : Stands S R r before (t + n) (a .next) (a .sets)
+  stands : StandsAfter S R r before (t + n) (a .next) (a .sets)
 
 module _ (S : System) (R : List (List ℕ)) (r : Record) (before : List ℕ) (B : Begins S R r before) where
   abbrev sown : ℕ → Bool
@@ -60,7 +60,7 @@ module _ (S : System) (R : List (List ℕ)) (r : Record) (before : List ℕ) (B 
   law-more t n a (inr d) =
       inr (record { enough = omega (arith, d .enough); rounds = omega (arith, d .rounds); ending = d .ending; next = d .next; value = d .value; places = d .places })
 
-  run-law : (n t : ℕ) (now : Record) (s : List ℕ) → Stands S R r before t now s → Law t n (runOf S R before n now s)
+  run-law : (n t : ℕ) (now : Record) (s : List ℕ) → StandsAfter S R r before t now s → Law t n (runOf S R before n now s)
   unfolding runOf
   run-law zero t now s g = inl (record { rounds = refl; ending = refl; stands = rw (add-zero t) g })
   run-law (suc n) t now s g = ⊎-elim (λ h. on h (run-law n (suc t) (m .next) (m .sets) (h .stands))) off (step-law S R r before B t now s g)
@@ -82,14 +82,14 @@ module _ (S : System) (R : List (List ℕ)) (r : Record) (before : List ℕ) (B 
       }))
 
   -- t rounds are not more than all
-  stands-time : (t : ℕ) (now : Record) (s : List ℕ) → Stands S R r before t now s → t ≤ wholeOf S R r before
+  stands-time : (t : ℕ) (now : Record) (s : List ℕ) → StandsAfter S R r before t now s → t ≤ wholeOf S R r before
   stands-time t now s g = by-phase (g .i) (g .k) (at s) (g .rank) (g .phase) (g .time)
     where
       by-phase : (i k : ℕ) (v : Assignment) → i ≤ length R → Phase S R sown b i k v → t ≡ roundsTo S R sown b i + k → t ≤ wholeOf S R r before
       by-phase i zero v n (between e) h = omega (arith, rounds-mono S R sown b i (length R) n)
       by-phase i (suc k) v n (climbing l w o f e) h = omega (arith, rounds-behind S R sown b i (length R) w l)
 
-  begins : Stands S R r before 0 r before
+  begins : StandsAfter S R r before 0 r before
   unfolding sumTo afterOf
   begins = record { i = 0; k = 0; rank = zero-le; numbers = same-record r 0 0 0 _ (B .fresh .rank) (B .fresh .round) (B .fresh .circles) (B .fresh .evaluations ∙ omega arith); phase = between refl; time = omega arith; places = refl }
 
@@ -139,7 +139,7 @@ joined a b = record { rounds = a .rounds + b .rounds; ending = b .ending; next =
 -- behind one step
 step-on : (o : Outcome) (r : Record) (s : List ℕ) (first all rest : Record → List ℕ → Ran)
     → (first r s .ending ≡ paused → all r s ≡ joined (first r s) (rest (first r s .next) (first r s .sets)))
-    → onward o r s first .ending ≡ paused → onward o r s all ≡ joined (onward o r s first) (rest (onward o r s first .next) (onward o r s first .sets))
+    → continued o r s first .ending ≡ paused → continued o r s all ≡ joined (continued o r s first) (rest (continued o r s first .next) (continued o r s first .sets))
 step-on (round a k c d) r s first all rest f h =
     let b = rest (first r s .next) (first r s .sets) in
     let q : suc (first r s .rounds + b .rounds) ≡ suc (first r s .rounds) + b .rounds = omega arith in

@@ -67,7 +67,7 @@ pub data Phase (S : System) (R : List (List ℕ)) (sown : ℕ → Bool) (b : Ass
       → v ≡ stage S (member (circleAt R i)) (afterOf S R sown b i) (suc k) → Phase S R sown b i (suc k) v
 
 -- where an update stands after n rounds
-pub record Stands (S : System) (R : List (List ℕ)) (r : Record) (before : List ℕ) (n : ℕ) (next : Record) (sets : List ℕ) : Type 0 where
+pub record StandsAfter (S : System) (R : List (List ℕ)) (r : Record) (before : List ℕ) (n : ℕ) (next : Record) (sets : List ℕ) : Type 0 where
   pub i : ℕ
   pub k : ℕ
   pub rank : i ≤ length R
@@ -90,7 +90,7 @@ pub record NextRound (S : System) (R : List (List ℕ)) (r : Record) (before : L
   pub k : ℕ
   pub scheduled : Scheduled S R (sownOf r) (at before) i k n
   pub made : RoundDone S R r before i k s m
-  pub stands : Stands S R r before (suc n) (m .next) (m .sets)
+  pub stands : StandsAfter S R r before (suc n) (m .next) (m .sets)
 
 abbrev pub NthRound : Type 0
 NthRound = (S : System) (R : List (List ℕ)) (r : Record) (before : List ℕ) → Begins S R r before → (n : ℕ) → n < wholeOf S R r before
@@ -107,7 +107,7 @@ EachRound = (S : System) (R : List (List ℕ)) (r : Record) (before : List ℕ) 
 pub record Pauses (S : System) (R : List (List ℕ)) (r : Record) (before : List ℕ) (n : ℕ) (a : Ran) : Type 0 where
   pub rounds : a .rounds ≡ n
   pub ending : a .ending ≡ paused
-  pub stands : Stands S R r before n (a .next) (a .sets)
+  pub stands : StandsAfter S R r before n (a .next) (a .sets)
 
 abbrev pub AllPause : Type 0
 AllPause = (S : System) (R : List (List ℕ)) (r : Record) (before : List ℕ) → Begins S R r before → (n : ℕ) → n ≤ wholeOf S R r before

@@ -17,8 +17,8 @@ use Rattle.update.specs.Steps.{sownOf, changedOf, paused, runOf}
 
 -- "Sown instances: r's synthesized ones and all below r; in a load, all."
 pub data Sown (r : Record) (x : ℕ) : Type 0 where
-  loads : isLoad (r .«open») ≡ true → Sown r x
-  synthesized : nodeOf x ≡ r .point → indexOf x < 4 → Sown r x
+  in-load : isLoad (r .«open») ≡ true → Sown r x
+  at-point : nodeOf x ≡ r .point → indexOf x < 4 → Sown r x
   below : r .point < nodeOf x → nodeOf x < r .point + r .part → Sown r x
 
 abbrev pub SownExactly : Type 0
