@@ -9,7 +9,6 @@ use native.Mathlib.Omega.{arith}
 use lib.Dec.{eqb}
 use lib.ListN.{length, getD, List·getD-eq-default}
 use lib.Seq.{ext-getD}
-use borrow.Author.Tests.{eq-eqb}
 use Rattle.circles.specs.Ranked.{member, anyOf}
 use Rattle.climb.specs.System.{Assignment, System}
 use Rattle.climb.specs.Climb.{stage, roundsOf}
@@ -39,6 +38,7 @@ use Rattle.demands.specs.History.{Working, at-start, and-run, WorkedToDo
 use Rattle.demands.specs.Asked.{LeastSets, OneLeast}
 use Rattle.demands.specs.Work.{dueBy, climbBy, overDue, Climbing, RoundTurn, Makes}
 use Rattle.demands.specs.Demands.{WorkedOn, Counts, Concludes, Update}
+use Rattle.demands.proofs.Circles.{first-member}
 use Rattle.demands.proofs.Due.{due-exactly}
 use Rattle.demands.proofs.Rows.{Amid, amid, ended, step-there, run-there}
 use Rattle.demands.proofs.Histories.{finished-settled}
@@ -65,10 +65,6 @@ round-same h = (cc, cc)
 
 round-or-done : {a k n c e x : ℕ} {d : Bool} → said (round a k n d) ≡ said (done c e x) → ⊥
 round-or-done h = let z : _≡_ {A = ℕ} 0 1 = cc in absurd (omega arith)
-
-first-member : (l : List ℕ) → 0 < length l → member l (getD l 0 0) ≡ true
-first-member [] h = absurd (omega arith)
-first-member (x ∷ l) h = rw (eq-eqb x x refl)
 
 some-due : (S : System) (fresh : ℕ → Bool) (b v : Assignment) (l : List ℕ) → dueOf S fresh b v l ≡ true → 0 < length l
 unfolding dueOf
