@@ -1,10 +1,11 @@
 -- An update that our calls opened, of whatever tree, is worked as demand 3 asks: its circles, their climbs, every round in its turn, its runs and its end. Assumes nothing.
 use mathlib.Core.Path.{_≡_, refl, sym, ap, _∙_, subst, fun-ext}
 use mathlib.Core.Bool.{Bool, true, false, not, _&&_, _||_, true≢false}
-use mathlib.Core.Logic.{⊎-elim}
+use mathlib.Core.Logic.{⊎-elim, _↔_}
 use mathlib.Core.List.{List, [], _∷_}
 use Prim.Native.Nat.{ℕ, suc, _+_, _*_, _≤_, _<_}
 use native.Mathlib.Nat.{le-refl, eq-or-lt-of-le}
+use native.Mathlib.Numerals.{add-one}
 use native.Mathlib.Omega.{arith}
 use lib.Dec.{eqb}
 use lib.ListN.{length, getD, List·getD-eq-default}
@@ -28,16 +29,18 @@ use Rattle.update.specs.declared.Record.{Record}
 use Rattle.update.specs.Memories.{Memory}
 use Rattle.update.specs.Steps.{sownOf, changedOf, Outcome, round, done, stepOf, Ending, paused, finished, Ran, runOf}
 use Rattle.update.specs.Calls.{Said, said, Left, leaving, Ranged, ranged, withSets, stepCall, runCall}
-use Rattle.update.specs.Course.{ranOf, wholeOf, Scheduled, NextRound, Finishes}
+use Rattle.update.specs.Course.{ranOf, wholeOf, Scheduled, recordAt, recordBehind, NextRound, Finishes}
 use Rattle.update.proofs.Scheduling.{one-schedule}
 use Rattle.update.proofs.Stepping.{Ended, step-law}
 use Rattle.update.proofs.Running as running
+use Rattle.update.proofs.Running.{same-record}
 use Rattle.update.proofs.Ready.{circles, lawful, in-rank, Ready, begins, Settled}
 use Rattle.demands.specs.Engine.{ours}
 use Rattle.demands.specs.History.{Working, at-start, and-run, WorkedToDone}
 use Rattle.demands.specs.Asked.{LeastSets, OneLeast}
 use Rattle.demands.specs.Work.{dueBy, climbBy, overDue, Climbing, RoundTurn, Makes}
 use Rattle.demands.specs.Demands.{WorkedOn, Counts, Concludes, Update}
+use Rattle.demands.specs.Counting.{countedAt, countedBehind, Uncut}
 use Rattle.demands.proofs.Circles.{first-member}
 use Rattle.demands.proofs.Due.{due-exactly}
 use Rattle.demands.proofs.Rows.{Amid, amid, ended, step-there, run-there}
@@ -79,12 +82,10 @@ one-least S v w a b = fun-ext (λ x. ⊎-elim
 pub least-settled : {t ns owns : List ℕ} {r : Record} {m : Memory} → Settled t ns owns r m → LeastSets (system t ns owns) (at (m .sets))
 least-settled q = record { least = q .least; empty = q .empty }
 
--- what was asked of an opened update, beside what the calls wrote: v are the least sets of its tree, the sets are the ones before, what is sown is what is
--- fresh, and changed is counted as asked
+-- what was asked of an opened update, beside what the calls wrote: v are the least sets of its tree, the sets are the ones before, and what is sown is what is
+-- fresh
 module _ {t ns owns : List ℕ} {r : Record} {m : Memory} (q : Ready t ns owns r m) (v : Assignment) (L : LeastSets (system t ns owns) v)
-    (fresh : ℕ → Bool) (before : Assignment) (changed : ℕ) (starts : at (m .sets) ≡ before)
-    (sown : (x : ℕ) → declared t ns x ≡ true → sownOf r x ≡ fresh x)
-    (changes : (s : List ℕ) → at s ≡ v → changedOf (system t ns owns) r (m .sets) s ≡ changed) where
+    (fresh : ℕ → Bool) (before : Assignment) (starts : at (m .sets) ≡ before) (sown : (x : ℕ) → declared t ns x ≡ true → sownOf r x ≡ fresh x) where
   abbrev S : System
   S = system t ns owns
 
@@ -147,17 +148,14 @@ module _ {t ns owns : List ℕ} {r : Record} {m : Memory} (q : Ready t ns owns r
   rounds-is : (n : ℕ) → n ≤ length R → roundsTo S R (sownOf r) b n ≡ overDue due climb n
   rounds-is n l = sum-same _ _ n (λ i k. rw (due-is i (omega arith), climb-is i (omega arith)))
 
+  circles-are : (n : ℕ) → n ≤ length R → circlesTo S R (sownOf r) b n ≡ overDue due (λ i. 1) n
+  circles-are n l = sum-same _ _ n (λ i k. rw (due-is i (omega arith)))
+
+  evaluations-are : (n : ℕ) → n ≤ length R → evaluationsTo S R (sownOf r) b n ≡ overDue due (λ i. length (C i) * climb i) n
+  evaluations-are n l = sum-same _ _ n (λ i k. rw (due-is i (omega arith), climb-is i (omega arith)))
+
   whole-is : whole ≡ overDue due climb (length R)
   whole-is = rounds-is (length R) (le-refl (length R))
-
-  -- done's numbers by the definition of an update are those asked for
-  counts-are : (s : List ℕ) → at s ≡ v → Counts (circlesTo S R (sownOf r) b (length R)) (evaluationsTo S R (sownOf r) b (length R)) (changedOf S r (m .sets) s)
-      (overDue due (λ i. 1) (length R)) (overDue due (λ i. length (C i) * climb i) (length R)) changed
-  counts-are s e = record {
-    circles = sum-same _ _ (length R) (λ i k. rw (due-is i k));
-    evaluations = sum-same _ _ (length R) (λ i k. rw (due-is i k, climb-is i k));
-    changed = changes s e;
-  }
 
   climbing : (i : ℕ) → i < length R → Climbing S (C i) v (climb i)
   climbing i l = record {
@@ -229,18 +227,18 @@ module _ {t ns owns : List ℕ} {r : Record} {m : Memory} (q : Ready t ns owns r
       absurd (omega (arith, one-schedule S R (sownOf r) b .within (g .i) (g .k) n (g .scheduled))))
       (λ d. d) (step-law S R r (m .sets) (begins q) n (run n .next) (run n .sets) (running.pauses S R r (m .sets) (begins q) n (omega arith) .stands))
 
-  last-sets : at (run whole .sets) ≡ v
-  last-sets = ended-there whole refl .value ∙ after-all
-
-  ends : (n : ℕ) (r₁ : Record) (m₁ : Memory) → Amid q n r₁ m₁ → n ≡ whole
-      → Concludes (done (overDue due (λ i. 1) (length R)) (overDue due (λ i. length (C i) * climb i) (length R)) changed) m₁ (stepCall t m₁ r₁)
-  ends n r₁ m₁ a e =
+  done-there : (n : ℕ) (r₁ : Record) (m₁ : Memory) → Amid q n r₁ m₁ → n ≡ whole → Concludes
+      (done (circlesTo S R (sownOf r) b (length R)) (evaluationsTo S R (sownOf r) b (length R)) (changedOf S r (m .sets) (run n .sets))) m₁ (stepCall t m₁ r₁)
+  done-there n r₁ m₁ a e =
       let d = ended-there n e in
       let h = step-there q n r₁ m₁ a in
       record {
-        answer = ap (λ (y : Left (Said Outcome)). y .answer) h ∙ rw (d .made) (ap said (done-same (counts-are (run n .sets) (d .value ∙ after-all))));
+        answer = ap (λ (y : Left (Said Outcome)). y .answer) h ∙ rw (d .made);
         memory = ap (λ (y : Left (Said Outcome)). y .memory) h ∙ rw (d .made) (sym (a .memory));
       }
+
+  last-sets : at (run whole .sets) ≡ v
+  last-sets = ended-there whole refl .value ∙ after-all
 
   -- all that finish leave the sets that the last round leaves
   same-sets : (n : ℕ) → whole < n → run n .sets ≡ run whole .sets
@@ -248,13 +246,6 @@ module _ {t ns owns : List ℕ} {r : Record} {m : Memory} (q : Ready t ns owns r
       let f = running.finishes S R r (m .sets) (begins q) n l in
       ext-getD 0 (run n .sets) (run whole .sets) (f .places ∙ sym (places whole (le-refl whole)))
       (λ x k. ap (λ (u : Assignment). u x) (f .value ∙ after-all ∙ sym last-sets))
-
-  counts : {c e x : ℕ} {r′ : Record} {m′ : Memory} → WorkedToDone ours t r m c e x r′ m′
-      → Counts c e x (overDue due (λ i. 1) (length R)) (overDue due (λ i. length (C i) * climb i) (length R)) changed
-  counts w =
-      let d = ended q w in
-      let f = running.finishes S R r (m .sets) (begins q) (d .budget) (d .enough) in
-      both (numbers (sym (d .ending) ∙ f .ending)) (counts-are (run (d .budget) .sets) (f .value ∙ after-all))
 
   -- ---- runs
 
@@ -286,20 +277,6 @@ module _ {t ns owns : List ℕ} {r : Record} {m : Memory} (q : Ready t ns owns r
       let d = rest n k (a .time) in
       let e : more n k .rounds ≡ k = omega (arith, d .rounds, p .rounds) in
       there n k r₁ m₁ a ∙ ap (λ (x : ℕ). said (ranged x (more n k .ending))) e ∙ ap (λ (x : Ending). said (ranged k x)) (sym (d .ending) ∙ p .ending)
-
-  run-ends : (n k : ℕ) (r₁ : Record) (m₁ m₂ : Memory) → Amid q n r₁ m₁ → m₂ ≡ withSets m (run whole .sets) → whole < n + k → (j : ℕ) × (n + j ≡ whole)
-      × Concludes (ranged j (finished (overDue due (λ i. 1) (length R)) (overDue due (λ i. length (C i) * climb i) (length R)) changed)) m₂ (runCall t m₁ r₁ k)
-  run-ends n k r₁ m₁ m₂ a e l =
-      let f = running.finishes S R r (m .sets) (begins q) (n + k) l in
-      let d = rest n k (a .time) in
-      let c = finished-same (counts-are (run (n + k) .sets) (f .value ∙ after-all)) in (
-        more n k .rounds,
-        omega (arith, f .rounds, d .rounds),
-        record {
-          answer = there n k r₁ m₁ a ∙ ap (λ (x : Ending). said (ranged (more n k .rounds) x)) (sym (d .ending) ∙ f .ending ∙ c);
-          memory = ap (λ (x : Left (Said Ranged)). x .memory) (run-there q n k r₁ m₁ a) ∙ ap (withSets m) (sym (d .sets) ∙ same-sets (n + k) l) ∙ sym e;
-        },
-      )
 
   -- a run from the opening on
   opening-run : (n : ℕ) → n ≤ whole → runCall t m r n ≡ leaving (ranged n paused) (run n .next) (withSets m (run n .sets))
@@ -351,7 +328,7 @@ module _ {t ns owns : List ℕ} {r : Record} {m : Memory} (q : Ready t ns owns r
 
   worked-due : (i : ℕ) → WorkedOn ours t r m (C i) → due i ≡ true
   worked-due i w = ⊎-elim
-      (λ (e : w .n ≡ whole). absurd (round-or-done (sym (w .step) ∙ ends (w .n) (w .next) (w .memory) (amid q (w .row)) e .answer)))
+      (λ (e : w .n ≡ whole). absurd (round-or-done (sym (w .step) ∙ done-there (w .n) (w .next) (w .memory) (amid q (w .row)) e .answer)))
       (λ (l : w .n < whole).
       let d = running.nth-round S R r (m .sets) (begins q) (w .n) l in
       let f = to-turn (d .i) (d .k) (w .n) (d .scheduled) in
@@ -360,28 +337,93 @@ module _ {t ns owns : List ℕ} {r : Record} {m : Memory} (q : Ready t ns owns r
       rw j at (f .worked))
       (eq-or-lt-of-le (amid q (w .row) .time))
 
-  -- ---- the whole
+  pub worked : (i : ℕ) → (due i ≡ true) ↔ WorkedOn ours t r m (C i)
+  worked i = (is-worked i, worked-due i)
 
-  pub as-asked : Update ours t S R fresh before v due climb changed r m
-  as-asked =
-      let o = one-schedule S R (sownOf r) b in
-      record {
-        starts = λ x. ap (λ (u : Assignment). u x) starts;
-        copied = λ x. ap (λ (u : Assignment). u x) (q .before ∙ starts);
-        exactly = λ i. due-exactly S fresh before v (C i);
-        worked = λ i. (is-worked i, worked-due i);
-        climbing = climbing;
-        turn = λ n l. let d = running.nth-round S R r (m .sets) (begins q) n (omega (arith, whole-is)) in (d .i, d .k, to-turn (d .i) (d .k) n (d .scheduled));
-        one = λ i k j l n f f′. o .one i k j l n (from-turn i k n f) (from-turn j l n f′);
-        within = λ i k n f. omega (arith, whole-is, o .within i k n (from-turn i k n f));
-        makes = λ {n} {next} {memory} w i k f. makes n next memory (amid q w) i k f;
-        last = λ {n} {next} {memory} w. omega (arith, whole-is, amid q w .time);
-        ends = λ {n} {next} {memory} w e. ends n next memory (amid q w) (e ∙ sym whole-is);
-        same = λ {n} {next} {memory} w. same n next memory (amid q w);
-        pauses = λ {n} {next} {memory} w budget l. run-pauses n budget next memory (amid q w) (omega (arith, whole-is));
-        finishes = λ {n} {next} {last} {memory} {there} w z budget l.
-            let e = run-ends n budget next memory there (amid q w)
-            (amid q z .memory ∙ ap (λ (k : ℕ). withSets m (run k .sets)) (sym whole-is)) (omega (arith, whole-is)) in
-            (e .0, e .1 ∙ whole-is, e .2);
-        counts = counts;
-      }
+  -- ---- the record
+
+  -- behind one more round
+  next-run : (n : ℕ) → n < whole → run (n + 1) .next ≡ stepOf S R (run n .next) (m .sets) (run n .sets) .next
+  unfolding runOf
+  next-run n l =
+      let w = running.runs-on S R (m .sets) n 1 r (m .sets) (running.pauses S R r (m .sets) (begins q) n (omega arith) .ending) in
+      ap (λ (x : Ran). x .next) w ∙ rw (running.nth-round S R r (m .sets) (begins q) n l .made .outcome)
+
+  counted-is : (i k : ℕ) → i ≤ length R → recordAt S R r (m .sets) i k ≡ countedAt r R due climb i k
+  counted-is i k l = rw (circles-are i l, evaluations-are i l)
+
+  behind-is : (i k : ℕ) → i < length R → recordBehind S R r (m .sets) i k ≡ countedBehind r R due climb i k
+  behind-is i k l = rw (climb-is i l, counted-is (suc i) 0 l, counted-is i k (omega arith))
+
+  pub uncut : Uncut ours t R due climb r m
+  unfolding runOf sumTo
+  uncut = record {
+    opening = λ w. amid q w .next ∙ same-record r 0 0 0 _ (q .fresh .rank) (q .fresh .round) (q .fresh .circles) (q .fresh .evaluations ∙ omega arith);
+    behind = λ {n} {next} {memory} w i k f.
+        let s = from-turn i k n f in
+        let a : next ≡ run (n + 1) .next = rw (add-one n) (amid q w .next) in
+        a ∙ next-run n (one-schedule S R (sownOf r) b .within i k n s) ∙ running.each-round S R r (m .sets) (begins q) i k n s .next ∙ behind-is i k (f .rank);
+  }
+
+  -- ---- and changed is counted as asked
+
+  module _ (changed : ℕ) (changes : (s : List ℕ) → at s ≡ v → changedOf S r (m .sets) s ≡ changed) where
+    -- done's numbers by the definition of an update are those asked for
+    counts-are : (s : List ℕ) → at s ≡ v → Counts (circlesTo S R (sownOf r) b (length R)) (evaluationsTo S R (sownOf r) b (length R)) (changedOf S r (m .sets) s)
+        (overDue due (λ i. 1) (length R)) (overDue due (λ i. length (C i) * climb i) (length R)) changed
+    counts-are s e = record {
+      circles = circles-are (length R) (le-refl (length R));
+      evaluations = evaluations-are (length R) (le-refl (length R));
+      changed = changes s e;
+    }
+
+    ends : (n : ℕ) (r₁ : Record) (m₁ : Memory) → Amid q n r₁ m₁ → n ≡ whole
+        → Concludes (done (overDue due (λ i. 1) (length R)) (overDue due (λ i. length (C i) * climb i) (length R)) changed) m₁ (stepCall t m₁ r₁)
+    ends n r₁ m₁ a e =
+        let d = done-there n r₁ m₁ a e in
+        record { answer = d .answer ∙ ap said (done-same (counts-are (run n .sets) (ended-there n e .value ∙ after-all))); memory = d .memory }
+
+    counts : {c e x : ℕ} {r′ : Record} {m′ : Memory} → WorkedToDone ours t r m c e x r′ m′
+        → Counts c e x (overDue due (λ i. 1) (length R)) (overDue due (λ i. length (C i) * climb i) (length R)) changed
+    counts w =
+        let d = ended q w in
+        let f = running.finishes S R r (m .sets) (begins q) (d .budget) (d .enough) in
+        both (numbers (sym (d .ending) ∙ f .ending)) (counts-are (run (d .budget) .sets) (f .value ∙ after-all))
+
+    run-ends : (n k : ℕ) (r₁ : Record) (m₁ m₂ : Memory) → Amid q n r₁ m₁ → m₂ ≡ withSets m (run whole .sets) → whole < n + k → (j : ℕ) × (n + j ≡ whole)
+        × Concludes (ranged j (finished (overDue due (λ i. 1) (length R)) (overDue due (λ i. length (C i) * climb i) (length R)) changed)) m₂ (runCall t m₁ r₁ k)
+    run-ends n k r₁ m₁ m₂ a e l =
+        let f = running.finishes S R r (m .sets) (begins q) (n + k) l in
+        let d = rest n k (a .time) in
+        let c = finished-same (counts-are (run (n + k) .sets) (f .value ∙ after-all)) in (
+          more n k .rounds,
+          omega (arith, f .rounds, d .rounds),
+          record {
+            answer = there n k r₁ m₁ a ∙ ap (λ (x : Ending). said (ranged (more n k .rounds) x)) (sym (d .ending) ∙ f .ending ∙ c);
+            memory = ap (λ (x : Left (Said Ranged)). x .memory) (run-there q n k r₁ m₁ a) ∙ ap (withSets m) (sym (d .sets) ∙ same-sets (n + k) l) ∙ sym e;
+          },
+        )
+
+    pub as-asked : Update ours t S R fresh before v due climb changed r m
+    as-asked =
+        let o = one-schedule S R (sownOf r) b in
+        record {
+          starts = λ x. ap (λ (u : Assignment). u x) starts;
+          copied = λ x. ap (λ (u : Assignment). u x) (q .before ∙ starts);
+          exactly = λ i. due-exactly S fresh before v (C i);
+          worked = worked;
+          climbing = climbing;
+          turn = λ n l. let d = running.nth-round S R r (m .sets) (begins q) n (omega (arith, whole-is)) in (d .i, d .k, to-turn (d .i) (d .k) n (d .scheduled));
+          one = λ i k j l n f f′. o .one i k j l n (from-turn i k n f) (from-turn j l n f′);
+          within = λ i k n f. omega (arith, whole-is, o .within i k n (from-turn i k n f));
+          makes = λ {n} {next} {memory} w i k f. makes n next memory (amid q w) i k f;
+          last = λ {n} {next} {memory} w. omega (arith, whole-is, amid q w .time);
+          ends = λ {n} {next} {memory} w e. ends n next memory (amid q w) (e ∙ sym whole-is);
+          same = λ {n} {next} {memory} w. same n next memory (amid q w);
+          pauses = λ {n} {next} {memory} w budget l. run-pauses n budget next memory (amid q w) (omega (arith, whole-is));
+          finishes = λ {n} {next} {last} {memory} {there} w z budget l.
+              let e = run-ends n budget next memory there (amid q w)
+              (amid q z .memory ∙ ap (λ (k : ℕ). withSets m (run k .sets)) (sym whole-is)) (omega (arith, whole-is)) in
+              (e .0, e .1 ∙ whole-is, e .2);
+          counts = counts;
+        }

@@ -18,12 +18,12 @@ use Rattle.update.specs.declared.Record.{Record}
 use Rattle.update.specs.Records.{isLoad, shut, working}
 use Rattle.update.specs.Within.{WithinLimits}
 use Rattle.update.specs.Steps.{sownOf, changedOf, Outcome, round, done, continued, Made, stepOf, paused, finished, Ran, runOf}
-use Rattle.update.specs.Course.{Begins, ranOf, wholeOf, Phase, between, climbing, StandsAfter, NextRound, NthRound, EachRound, Pauses, AllPause, AllFinish, RunsOn, LeastAtDone, LoadIsKept, LoadEvaluates, Below, NeverAtLimits, NeverBeyond, recordAt}
+use Rattle.update.specs.Course.{Begins, ranOf, wholeOf, Phase, between, climbing, StandsAfter, NextRound, NthRound, EachRound, Pauses, AllPause, AllFinish, RunsOn, LeastAtDone, LoadIsKept, LoadEvaluates, NeverBeyond, recordAt}
 use Rattle.update.proofs.Within.{beyond-means}
 use Rattle.update.proofs.Stepping.{Ended, step-law}
 use Rattle.update.proofs.Scheduling.{rounds-mono, rounds-behind, one-schedule}
 
-same-record : (r : Record) (i k c e : ℕ) → r .rank ≡ i → r .round ≡ k → r .circles ≡ c → r .evaluations ≡ e → r ≡ working r i k c e
+pub same-record : (r : Record) (i k c e : ℕ) → r .rank ≡ i → r .round ≡ k → r .circles ≡ c → r .evaluations ≡ e → r ≡ working r i k c e
 same-record r i k c e hi hk hc he = rw (← hi, ← hk, ← hc, ← he)
 
 -- after t rounds, with a budget of n
@@ -177,8 +177,17 @@ module _ (S : System) (R : List (List ℕ)) (r : Record) (before : List ℕ) (B 
   limits : Limits S R (sownOf r) (at before)
   limits = all-limits S R (lawful-circles S (B .lawful) R) (B .ranked) (sownOf r) (at before) (B .small)
 
-  below-at : (i k : ℕ) (v : Assignment) → i ≤ length R → Phase S R (sownOf r) (at before) i k v → Below (recordAt S R r before i k)
-  below-at i k v n g = record { rank = omega (arith, B .ranked .count); round = few k g; circles = le-trans c (limits .circles); evaluations = evals k g }
+  within-at : (i k : ℕ) (v : Assignment) → i ≤ length R → Phase S R (sownOf r) (at before) i k v → WithinLimits r → WithinLimits (recordAt S R r before i k)
+  within-at i k v n g w = record {
+    nodes = w .nodes;
+    point = w .point;
+    part = w .part;
+    rank = omega (arith, B .ranked .count);
+    round = few k g;
+    circles = le-trans c (limits .circles);
+    evaluations = evals k g;
+    inside = w .inside;
+  }
     where
       q : i + (length R - i) ≡ length R
       q = omega arith
@@ -189,7 +198,7 @@ module _ (S : System) (R : List (List ℕ)) (r : Record) (before : List ℕ) (B 
       e : evaluationsTo S R (sownOf r) (at before) i ≤ evaluationsTo S R (sownOf r) (at before) (length R)
       e = rw q at (sum-mono (λ j. cond (workedOf S R (sownOf r) (at before) j) (length (circleAt R j) * roundsAt S R (sownOf r) (at before) j) 0) i (length R - i))
 
-      few : (k : ℕ) → Phase S R (sownOf r) (at before) i k v → k < 262145
+      few : (k : ℕ) → Phase S R (sownOf r) (at before) i k v → k ≤ 262145
       few zero (between p) = omega arith
       few (suc k) (climbing l w o f p) = omega (arith, limits .rounds i l)
 
@@ -197,23 +206,7 @@ module _ (S : System) (R : List (List ℕ)) (r : Record) (before : List ℕ) (B 
       evals zero (between p) = omega (arith, e, limits .evaluations)
       evals (suc k) (climbing l w o f p) = omega (arith, limits .midst i (suc k) l w f)
 
-pub never-at-limits : NeverAtLimits
-never-at-limits S R r before B n h =
-    let g = pauses S R r before B n h .stands in
-    rw (g .numbers) (below-at S R r before B (g .i) (g .k) _ (g .rank) (g .phase))
-
 pub never-beyond : NeverBeyond
 never-beyond S R r before B w n h =
     let g = pauses S R r before B n h .stands in
-    let l = below-at S R r before B (g .i) (g .k) _ (g .rank) (g .phase) in
-    let v : WithinLimits r = beyond-means r .0 w in
-    rw (g .numbers) (beyond-means (recordAt S R r before (g .i) (g .k)) .1 (record {
-      nodes = v .nodes;
-      point = v .point;
-      part = v .part;
-      rank = l .rank;
-      round = omega (arith, l .round);
-      circles = l .circles;
-      evaluations = l .evaluations;
-      inside = v .inside;
-    }))
+    rw (g .numbers) (beyond-means (recordAt S R r before (g .i) (g .k)) .1 (within-at S R r before B (g .i) (g .k) _ (g .rank) (g .phase) (beyond-means r .0 w)))

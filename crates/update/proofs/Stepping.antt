@@ -181,6 +181,8 @@ module _ (S : System) (R : List (List ℕ)) (r : Record) (before : List ℕ) (B 
       outcome = rw flag;
       value = d .value;
       elsewhere = λ x o. ap (λ (u : Assignment). u x) (d .value) ∙ stage-out S (member C) (after i) (suc j) x o ∙ sym (phase-outside i j (at s) g x o);
+      next = ⊎-elim (λ (h : eqb (suc j) (roundsAt S R sown b i) ≡ true). rw h (closed h .numbers)) (λ (h : eqb (suc j) (roundsAt S R sown b i) ≡ false). rw h (on h .numbers))
+          (either (eqb (suc j) (roundsAt S R sown b i)));
     };
     stands = ⊎-elim closed on (either (eqb (suc j) (roundsAt S R sown b i)));
   }
