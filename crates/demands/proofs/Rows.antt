@@ -46,7 +46,7 @@ pub step-alike : (S : System) (R : List (List ℕ)) (r : Record) (b b′ s : Lis
 unfolding stepOf doneMade
 step-alike S R r b b′ s e = rw (due-alike S R r b b′ s e, changed-alike S r b b′ s e)
 
-again : (o : Outcome) (r : Record) (s : List ℕ) (f g : Record → List ℕ → Ran) → f r s ≡ g r s → continued o r s f ≡ continued o r s g
+pub again : (o : Outcome) (r : Record) (s : List ℕ) (f g : Record → List ℕ → Ran) → f r s ≡ g r s → continued o r s f ≡ continued o r s g
 again (round a k c d) r s f g e = rw e
 again (done a c d) r s f g e = refl
 
