@@ -37,12 +37,12 @@ due-alike : (S : System) (R : List (List ℕ)) (r : Record) (b b′ s : List ℕ
 unfolding dueFrom
 due-alike S R r b b′ s e = ap (λ (u : Assignment). leastFrom (λ i. dueOf S (sownOf r) u (at s) (circleAt R i)) (length R - r .rank) (r .rank)) e
 
-pub changed-alike : (S : System) (r : Record) (b b′ s : List ℕ) → at b ≡ at b′ → changedOf S r b s ≡ changedOf S r b′ s
+changed-alike : (S : System) (r : Record) (b b′ s : List ℕ) → at b ≡ at b′ → changedOf S r b s ≡ changedOf S r b′ s
 unfolding changedOf
 changed-alike S r b b′ s e =
     ap (λ (u : Assignment). cond (isLoad (r .«open»)) 0 (length (keep (λ x. S .declared x && survives r x && not (eqb (at s x) (u x))) (upFrom 0 (S .size))))) e
 
-pub step-alike : (S : System) (R : List (List ℕ)) (r : Record) (b b′ s : List ℕ) → at b ≡ at b′ → stepOf S R r b s ≡ stepOf S R r b′ s
+step-alike : (S : System) (R : List (List ℕ)) (r : Record) (b b′ s : List ℕ) → at b ≡ at b′ → stepOf S R r b s ≡ stepOf S R r b′ s
 unfolding stepOf doneMade
 step-alike S R r b b′ s e = rw (due-alike S R r b b′ s e, changed-alike S r b b′ s e)
 
@@ -50,7 +50,7 @@ pub again : (o : Outcome) (r : Record) (s : List ℕ) (f g : Record → List ℕ
 again (round a k c d) r s f g e = rw e
 again (done a c d) r s f g e = refl
 
-pub run-alike : (S : System) (R : List (List ℕ)) (b b′ : List ℕ) → at b ≡ at b′ → (n : ℕ) (r : Record) (s : List ℕ) → runOf S R b n r s ≡ runOf S R b′ n r s
+run-alike : (S : System) (R : List (List ℕ)) (b b′ : List ℕ) → at b ≡ at b′ → (n : ℕ) (r : Record) (s : List ℕ) → runOf S R b n r s ≡ runOf S R b′ n r s
 unfolding runOf
 run-alike S R b b′ e zero r s = refl
 run-alike S R b b′ e (suc n) r s =
@@ -59,7 +59,7 @@ run-alike S R b b′ e (suc n) r s =
 
 -- ---- the calls, while the update is open
 
-pub never-both : {c e x : ℕ} → paused ≡ finished c e x → ⊥
+never-both : {c e x : ℕ} → paused ≡ finished c e x → ⊥
 never-both h = let z : _≡_ {A = ℕ} 0 1 = cc in absurd (omega arith)
 
 taken-step : (t : List ℕ) (m : Memory) (r : Record) → stepRefusal t m r ≡ 0
