@@ -1,0 +1,64 @@
+// All that is lent as one number, so that a line shows whether a call has changed any of it.
+use crate::tell::say;
+use crate::tell::say_set;
+use std::num::wrapping_add_u64;
+
+fn wide(x: u8) -> u64 {
+    x as u64
+}
+
+// A row's mark before its first word.
+pub const FIRST: u64 = 1;
+
+// One word more: other words, or the same ones in another order, give another mark.
+pub fn mix(mark: u64, word: u64) -> u64 {
+    wrapping_add_u64(mark << 5 | mark >> 59, word)
+}
+
+fn mix_bytes(mark: u64, bytes: &[u8]) -> u64 {
+    let mut mixed = mark;
+    let mut i: usize = 0;
+    while i < bytes.len() {
+        mixed = mix(mixed, wide(bytes[i]));
+        i += 1;
+    }
+    mixed
+}
+
+fn mix_words(mark: u64, words: &[u64]) -> u64 {
+    let mut mixed = mark;
+    let mut i: usize = 0;
+    while i < words.len() {
+        mixed = mix(mixed, words[i]);
+        i += 1;
+    }
+    mixed
+}
+
+// The mark of what is lent.
+pub fn mark_of(
+    held: &[u8; 512],
+    held_owns: &[u64; 512],
+    sets: &[u64; 4096],
+    before: &[u64; 4096],
+) -> u64 {
+    let nodes = mix_words(mix_bytes(FIRST, held), held_owns);
+    mix_words(mix_words(nodes, sets), before)
+}
+
+// The mark of what is lent, and whether it is the one that it was.
+pub fn tell_memory(
+    was: u64,
+    held: &[u8; 512],
+    held_owns: &[u64; 512],
+    sets: &[u64; 4096],
+    before: &[u64; 4096],
+) {
+    let mark = mark_of(held, held_owns, sets, before);
+    say_set(b"memory: ", mark);
+    if mark == was {
+        say(b", as it was\n");
+    } else {
+        say(b", changed\n");
+    }
+}
