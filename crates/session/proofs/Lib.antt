@@ -1,2 +1,5 @@
 pub mod Printed
 pub mod Reading
+pub mod Resting
+pub mod Updates
+pub mod Running
