@@ -3,3 +3,5 @@ pub mod Reading
 pub mod Resting
 pub mod Updates
 pub mod Running
+pub mod Texts
+pub mod Only

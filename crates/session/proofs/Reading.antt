@@ -1,11 +1,11 @@
 -- What a session reads: the table frame by frame, and that its words and a command's own sets are words of 64 bits. Assumes nothing.
-use mathlib.Core.Path.{_≡_, refl, sym, _∙_, subst}
+use mathlib.Core.Path.{_≡_, refl}
 use mathlib.Core.Bool.{Bool, true, false, cond, true≢false}
 use mathlib.Core.List.{List, [], _∷_}
 use Prim.Native.Nat.{ℕ, zero, suc, _+_, _*_, _^_, _≤_, _<_}
 use native.Mathlib.Omega.{arith}
 use lib.Dec.{eqb, lit<}
-use lib.ListN.{length, getD, set, replicate}
+use lib.ListN.{length, set, replicate}
 use Rattle.refusal.specs.declared.Refusal.the-variants as why
 use Rattle.table.specs.Judge.{judgeTable}
 use Rattle.wire.specs.Laws.{Words}

@@ -1,24 +1,23 @@
 -- What the definition of a session computes is one, for every text. Assumes nothing.
 use mathlib.Core.Path.{_≡_, refl, sym, ap, _∙_, subst}
-use mathlib.Core.Bool.{Bool, true, false}
-use mathlib.Core.List.{List, [], _∷_, _++_, map}
+use mathlib.Core.Bool.{true}
+use mathlib.Core.List.{List, map}
 use Prim.Native.Nat.{ℕ, zero, suc, _+_, _*_, _≤_, _<_}
 use native.Mathlib.Omega.{arith}
 use lib.ListN.{length, replicate}
-use Rattle.refusal.specs.Numbers.{numberOf}
-use Rattle.circles.specs.Ranked.{member, keep, upFrom}
+use Rattle.circles.specs.Ranked.{member, upFrom}
 use Rattle.circles.specs.Laws.{Rising}
 use Rattle.circles.proofs.Sequence.{rising-keep}
 use Rattle.climb.specs.Memory.{at}
 use Rattle.climb.proofs.Lists.{keep-is, keep-in, in-upFrom}
-use Rattle.wire.specs.Instances.{declared, system}
+use Rattle.wire.specs.Instances.{declared}
 use Rattle.wire.specs.Laws.{Words}
 use Rattle.wire.specs.Replaced.{nodesAfter, ownsAfter}
 use Rattle.wire.proofs.Places.{declared-below}
 use Rattle.update.specs.declared.Record.{Record}
 use Rattle.update.specs.Records.{emptyRecord}
 use Rattle.update.specs.Memories.{Memory, nodesOf}
-use Rattle.update.specs.Refusals.{firstRefusal, loadRefusal, replaceRefusal, lookRefusals}
+use Rattle.update.specs.Refusals.{loadRefusal, replaceRefusal}
 use Rattle.update.specs.Refused.{Leaves}
 use Rattle.update.specs.Calls.{Said, refused, said, Left, Opened, is-open, loadCall, replaceCall, dumped}
 use Rattle.update.specs.History.{leaving}
@@ -28,7 +27,6 @@ use Rattle.demands.specs.History.{History}
 use Rattle.demands.proofs.Ours.{ours-2}
 use Rattle.frames.specs.Frames.{frameAt}
 use Rattle.frames.specs.Out.{dumpText, refusalText}
-use Rattle.frames.specs.declared.Step.{Step}
 use Rattle.frames.specs.declared.Frame.{Frame}
 use Rattle.frames.specs.declared.Frame.the-variants.{Header, Symbol, Production, Equation, Node, Load, Replace, Dump, Refused, Over}
 use Rattle.frames.specs.declared.Expected.the-variants.{AtHeader}
@@ -62,7 +60,7 @@ declared-dumped {t} {ns} {r = r} {m} k x h =
     let d : declared t (nodesOf m (r .nodes)) x ≡ true = rw (k .count, k .nodes) h in
     keep-in (declared t (nodesOf m (r .nodes))) (upFrom 0 (8 * r .nodes)) x (in-upFrom (8 * r .nodes) 0 x (omega arith) (omega (arith, declared-below t ns x h, k .count))) d
 
-sets-text : {t ns owns : List ℕ} {r : Record} {m : Memory} → History ours t ns owns r m
+pub sets-text : {t ns owns : List ℕ} {r : Record} {m : Memory} → History ours t ns owns r m
     → SetsText t ns owns (dumpText (map (λ x. record { instance = x; value = at (m .sets) x }) (dumped t m r)))
 sets-text {t} {ns} {owns} {r} {m} h =
     let k = keeps (settled h) in
@@ -77,7 +75,7 @@ sets-text {t} {ns} {owns} {r} {m} h =
 
 -- ---- a call by its number
 
-opens : {r : Record} {m : Memory} {left : Left (Said Opened)} → Leaves 0 r m left → left ≡ leaving is-open (left .next) (left .memory)
+pub opens : {r : Record} {m : Memory} {left : Left (Said Opened)} → Leaves 0 r m left → left ≡ leaving is-open (left .next) (left .memory)
 opens {left = left} l = let c = l .carried refl in answered left (said is-open) (c .1 ∙ ap said (only (c .0)))
   where
     only : (a : Opened) → a ≡ is-open
@@ -85,6 +83,14 @@ opens {left = left} l = let c = l .carried refl in answered left (said is-open) 
 
 never-absent : {t new newOwns : List ℕ} {point n : ℕ} → ReplaceNumber t point new newOwns no-tree n → n ≡ 16
 never-absent absent = refl
+
+-- ---- the nodes of a load or a replacement stand behind its frame, and their own sets are words
+
+pub nodes-behind : {s ns owns : List ℕ} {place line place′ line′ : ℕ} {kind : ℕ → Frame} → CommandAt s place line kind (good ns owns place′ line′)
+    → 0 < typeOf (frameAt s place line .frame) → (Words owns) × (place < place′)
+nodes-behind {s} {ns} {owns} {place} {line} {place′} {line′} c y =
+    let w = nodes-forth (c .count) s (frameAt s place line .place) (frameAt s place line .line) ns owns place′ line′ (c .found) in
+    (words-fit ns owns (w .fit), omega (arith, frame-on s place line y, w .behind))
 
 -- ---- an update that is accepted and told to done
 
@@ -142,18 +148,11 @@ module _ (s t : List ℕ) (q : TableRead t) where
         subst (λ (told : Told). Commands s t place line h r m (andOn told place′ line′ go)) (sym (ap (openedThen line t) (l .refused (omega arith))))
         (on (record { text = refusalText (suc k) line; next = r; memory = m }) h place′ line′ (refuses (omega arith)) b further)
 
-    -- the nodes of a load or a replacement stand behind its frame
-    further-on : (kind : ℕ → Frame) {ns owns : List ℕ} {place′ line′ : ℕ} → CommandAt s place line kind (good ns owns place′ line′)
-        → 0 < typeOf (frameAt s place line .frame) → (Words owns) × (place < place′)
-    further-on kind {ns} {owns} {place′} {line′} c y =
-        let w = nodes-forth (c .count) s (frameAt s place line .place) (frameAt s place line .line) ns owns place′ line′ (c .found) in
-        (words-fit ns owns (w .fit), omega (arith, frame-on s place line y, w .behind))
-
     load-runs : (ns owns : List ℕ) (place′ line′ : ℕ) → CommandAt s place line Load (good ns owns place′ line′)
         → Commands s t place line h r m (andOn (openedThen line t (loadCall t m r ns owns)) place′ line′ go)
     load-runs ns owns place′ line′ c =
         let num = load-number t (rests b) (q .sound) ns owns in
-        let f = further-on Load c (rw (c .frame) (omega arith)) in
+        let f = nodes-behind c (rw (c .frame) (omega arith)) in
         by-number (loadCall t m r ns owns) place′ line′ (f .1) (loadRefusal t m r ns owns) (all-leave t m r .load ns owns) (load-refused c num)
         (λ z e. load-accepted (q .words) (f .0) c (subst (LoadNumber t ns owns) z num) e)
 
@@ -161,7 +160,7 @@ module _ (s t : List ℕ) (q : TableRead t) where
         → Commands s t place line h r m (andOn (openedThen line t (replaceCall t m r point new newOwns)) place′ line′ go)
     replace-runs point new newOwns place′ line′ c =
         let num = replace-number b (q .sound) point new newOwns in
-        let f = further-on (Replace point) c (rw (c .frame) (omega arith)) in
+        let f = nodes-behind c (rw (c .frame) (omega arith)) in
         by-number (replaceCall t m r point new newOwns) place′ line′ (f .1) (replaceRefusal t m r point new newOwns) (all-leave t m r .replace point new newOwns)
         (replacement-refused point c num) (λ z e. replacement-accepted b (f .0) c (subst (ReplaceNumber t point new newOwns h) z num) e)
 

@@ -18,12 +18,12 @@ use Rattle.wire.specs.Replaced.{nodesAfter, ownsAfter}
 use Rattle.update.specs.declared.Record.{Record}
 use Rattle.update.specs.Records.{evaluationsMost}
 use Rattle.update.specs.Memories.{Memory}
-use Rattle.update.specs.Steps.{Outcome, round, done, Ending, paused, finished}
+use Rattle.update.specs.Steps.{Outcome, done, Ending, paused, finished}
 use Rattle.update.specs.Calls.{Said, refused, said, Left, Opened, Ranged, is-open, loadCall, replaceCall, stepCall}
 use Rattle.update.specs.History.{leaving, ranged}
 use Rattle.demands.specs.Engine.{ours}
 use Rattle.demands.specs.History.{Working, begun, stepped, Worked, by-step, Opening, loads, replaces, History, finishes}
-use Rattle.demands.specs.Asked.{LeastSets, ByRank, surviving, valueBefore, changedFrom}
+use Rattle.demands.specs.Asked.{LeastSets, ByRank, surviving, changedFrom}
 use Rattle.demands.specs.Demands.{ComesToDone, Update, roundsDue, circlesDue, evaluationsDue}
 use Rattle.demands.proofs.Ours.{ours-2, ours-3}
 use Rattle.demands.proofs.Circles.{every-tree-by-rank}

@@ -151,6 +151,6 @@ pub data Session (s : List ℕ) : List ℕ → Type 0 where
 abbrev pub EverySession : Type 0
 EverySession = (s : List ℕ) → Session s (session s)
 
--- and no second text fits
-abbrev pub OneSession : Type 0
-OneSession = (s a b : List ℕ) → Session s a → Session s b → a ≡ b
+-- and no other text is one
+abbrev pub OnlySession : Type 0
+OnlySession = (s text : List ℕ) → Session s text → text ≡ session s
