@@ -211,7 +211,10 @@ module _ (s t : List ℕ) (q : TableRead t) where
 -- ---- the session
 
 session-from : (s : List ℕ) (a : Reading) → TableFrom s (replicate 2657 0) AtHeader 0 1 a → Session s (afterTable s a)
-session-from s (table.done t place line) f = runs f (commands-run s t (table-read f) (length s) place line no-tree emptyRecord ownMemory at-first (omega arith))
+session-from s (table.done t place line) f =
+    let c : Commands s t place line no-tree emptyRecord ownMemory (afterTable s (table.done t place line)) =
+    commands-run s t (table-read f) _ place line no-tree emptyRecord ownMemory at-first (omega arith) in
+    runs f c
 session-from s (table.stop refusal line) f = no-table f
 
 pub every-session : EverySession

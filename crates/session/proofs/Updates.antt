@@ -29,7 +29,7 @@ use Rattle.demands.proofs.Ours.{ours-2, ours-3}
 use Rattle.demands.proofs.Circles.{every-tree-by-rank}
 use Rattle.session.specs.Session.{Told, stepThen, stepsTold, toDone}
 use Rattle.session.specs.Lines.{UpdateLines, then-round, then-done, UpdateText, LoadText, ReplacementText}
-use Rattle.session.specs.Running.{ToDone}
+use Rattle.session.specs.Running.{UpdateDone}
 use Rattle.session.proofs.Resting.{settled}
 
 -- a call with another answer
@@ -98,7 +98,7 @@ module _ {t ns owns : List ℕ} {r : Record} {m : Memory} (o : Opening ours t ns
         (lt-or-ge (roundsDue R due climb) evaluationsMost)
 
     told : Tells u (toDone t r m) 0
-    told = steps-told u (suc (suc evaluationsMost)) 0 r m begun (omega (arith, few-rounds))
+    told = steps-told u _ 0 r m begun (omega (arith, few-rounds))
 
     told-text : (survives : ℕ → Bool) → changed ≡ changedFrom S survives before v → UpdateText S fresh survives before (toDone t r m .text)
     told-text survives e = record {
@@ -113,8 +113,8 @@ module _ {t ns owns : List ℕ} {r : Record} {m : Memory} (o : Opening ours t ns
       lines = subst (λ (n : ℕ). UpdateLines R due climb n 0 (toDone t r m .text)) e (told .lines);
     }
 
-    told-done : (left : Left (Said Opened)) → left ≡ leaving is-open r m → ToDone t left ns owns (toDone t r m .next) (toDone t r m .memory)
-    told-done left e = subst (λ (l : Left (Said Opened)). ToDone t l ns owns (toDone t r m .next) (toDone t r m .memory)) (sym e) (record {
+    told-done : (left : Left (Said Opened)) → left ≡ leaving is-open r m → UpdateDone t left ns owns (toDone t r m .next) (toDone t r m .memory)
+    told-done left e = subst (λ (l : Left (Said Opened)). UpdateDone t l ns owns (toDone t r m .next) (toDone t r m .memory)) (sym e) (record {
       opens = refl;
       circles = circlesDue R due;
       evaluations = evaluationsDue R due climb;
@@ -142,7 +142,7 @@ none-changed S before v = sym (ap length (keep-no (λ x. S .declared x && false 
 -- what is told of an update that was opened: its text, and what it leaves
 pub record Carried (t : List ℕ) (left : Left (Said Opened)) (ns owns : List ℕ) (Text : List ℕ → Type 0) (told : Told) : Type 0 where
   pub text : Text (told .text)
-  pub done : ToDone t left ns owns (told .next) (told .memory)
+  pub done : UpdateDone t left ns owns (told .next) (told .memory)
 
 pub load-carried : (t ns owns : List ℕ) (r r′ : Record) (m m′ : Memory) → Words t → Words owns → loadCall t m r ns owns ≡ leaving is-open r′ m′
     → Carried t (loadCall t m r ns owns) ns owns (LoadText t ns owns) (toDone t r′ m′)

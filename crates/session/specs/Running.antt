@@ -69,7 +69,7 @@ pub record CommandAt (s : List ℕ) (place line : ℕ) (kind : ℕ → Frame) (n
   pub found : nodesAt count s (frameAt s place line .place) (frameAt s place line .line) ≡ nodes
 
 -- a call that opened an update, which was worked to done: r and m are then the end of a history with the tree that was asked for
-pub record ToDone (t : List ℕ) (left : Left (Said Opened)) (ns owns : List ℕ) (r : Record) (m : Memory) : Type 0 where
+pub record UpdateDone (t : List ℕ) (left : Left (Said Opened)) (ns owns : List ℕ) (r : Record) (m : Memory) : Type 0 where
   pub opens : left .answer ≡ said is-open
   pub circles : ℕ
   pub evaluations : ℕ
@@ -83,14 +83,14 @@ pub data Command (s t : List ℕ) (place line : ℕ) : TreeHeld → Record → M
   load-refused : {h : TreeHeld} {r : Record} {m : Memory} {ns owns : List ℕ} {place′ line′ n : ℕ} → CommandAt s place line Load (good ns owns place′ line′)
       → LoadNumber t ns owns n → 0 < n → Command s t place line h r m (refusalText n line) place′ line′ h r m
   loads : {h : TreeHeld} {r r′ : Record} {m m′ : Memory} {ns owns text : List ℕ} {place′ line′ : ℕ} → CommandAt s place line Load (good ns owns place′ line′)
-      → LoadNumber t ns owns 0 → ToDone t (loadCall t m r ns owns) ns owns r′ m′ → LoadText t ns owns text
+      → LoadNumber t ns owns 0 → UpdateDone t (loadCall t m r ns owns) ns owns r′ m′ → LoadText t ns owns text
       → Command s t place line h r m text place′ line′ (tree ns owns) r′ m′
   replacement-refused : {h : TreeHeld} {r : Record} {m : Memory} {new newOwns : List ℕ} {place′ line′ n : ℕ} (point : ℕ)
       → CommandAt s place line (Replace point) (good new newOwns place′ line′) → ReplaceNumber t point new newOwns h n → 0 < n
       → Command s t place line h r m (refusalText n line) place′ line′ h r m
   replaces : {r r′ : Record} {m m′ : Memory} {ns owns new newOwns text : List ℕ} {place′ line′ : ℕ} (point : ℕ)
       → CommandAt s place line (Replace point) (good new newOwns place′ line′) → ReplaceNumber t point new newOwns (tree ns owns) 0
-      → ToDone t (replaceCall t m r point new newOwns) (nodesAfter t ns new point) (ownsAfter t ns owns newOwns point) r′ m′
+      → UpdateDone t (replaceCall t m r point new newOwns) (nodesAfter t ns new point) (ownsAfter t ns owns newOwns point) r′ m′
       → ReplacementText t ns owns point new newOwns text
       → Command s t place line (tree ns owns) r m text place′ line′ (tree (nodesAfter t ns new point) (ownsAfter t ns owns newOwns point)) r′ m′
   -- "16: [..] dump with no tree"
