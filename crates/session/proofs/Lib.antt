@@ -2,6 +2,6 @@ pub mod Printed
 pub mod Reading
 pub mod Resting
 pub mod Updates
-pub mod Running
+pub mod Commands
 pub mod Texts
 pub mod Only

@@ -1,7 +1,7 @@
 -- No text but what the definition of a session computes is one. Assumes nothing.
 use mathlib.Core.Path.{_≡_, refl, sym, ap, _∙_, subst}
-use mathlib.Core.Bool.{Bool, true, false, true≢false}
-use mathlib.Core.List.{List, [], _++_}
+use mathlib.Core.Bool.{true, false, true≢false}
+use mathlib.Core.List.{List, _++_}
 use Prim.Native.Nat.{ℕ, zero, suc, _+_, _≤_, _<_}
 use native.Mathlib.Omega.{arith}
 use lib.ListN.{length, replicate}
@@ -13,9 +13,8 @@ use Rattle.wire.specs.Replaced.{nodesAfter, ownsAfter}
 use Rattle.update.specs.declared.Record.{Record}
 use Rattle.update.specs.Records.{emptyRecord}
 use Rattle.update.specs.Memories.{Memory}
-use Rattle.update.specs.Refusals.{loadRefusal, replaceRefusal}
 use Rattle.update.specs.Refused.{Leaves}
-use Rattle.update.specs.Calls.{Said, refused, said, Left, Opened, is-open, loadCall, replaceCall}
+use Rattle.update.specs.Calls.{Said, Left, Opened, is-open, loadCall, replaceCall}
 use Rattle.update.specs.History.{leaving}
 use Rattle.update.proofs.Refusing.{all-leave}
 use Rattle.demands.specs.Engine.{ours}
@@ -24,27 +23,26 @@ use Rattle.demands.specs.Asked.{ByRank, newRule, surviving, valueBefore}
 use Rattle.demands.proofs.Ours.{one-least}
 use Rattle.demands.proofs.Circles.{every-tree-by-rank}
 use Rattle.frames.specs.Frames.{frameAt}
-use Rattle.frames.specs.Walk.{isOn}
 use Rattle.frames.specs.Out.{refusalText}
 use Rattle.frames.specs.declared.Frame.{Frame}
 use Rattle.frames.specs.declared.Frame.the-variants.{Header, Symbol, Production, Equation, Node, Load, Replace, Dump, Refused, Over}
 use Rattle.frames.specs.declared.Expected.{Expected}
 use Rattle.frames.specs.declared.Expected.the-variants.{AtHeader, Ended}
-use Rattle.texts.specs.Read.{typeOf, takenAt, wordsAfter}
+use Rattle.texts.specs.Read.{takenAt}
 use Rattle.texts.specs.Reading as table
 use Rattle.texts.specs.Reading.{Reading, readOn, readingAt}
-use Rattle.texts.specs.declared.Taken.the-variants.{Next, Stopped}
+use Rattle.texts.specs.declared.Taken.the-variants.{Stopped}
 use Rattle.texts.proofs.Readings.{read-out, read-turn, read-ends}
 use Rattle.texts.proofs.Passing.{frame-on, none-left, over-taken, taken-type}
-use Rattle.planting.specs.Planting.{good, bad}
+use Rattle.planting.specs.Planting.{good}
 use Rattle.session.specs.Session.{Told, openedThen, toDone, dumpTold, andOn, command, commandsFrom, ownMemory, afterTable, session}
 use Rattle.session.specs.Lines.{LoadText, ReplacementText, UpdateText, SetsText}
-use Rattle.session.specs.Running.{TreeHeld, no-tree, tree, Between, at-first, behind-history, LoadNumber, ReplaceNumber, too-many, judged, absent, outside, CommandAt, Command, load-refused, loads, replacement-refused, replaces, dump-refused, dumps, outOfPlace, Stops, over, bad-line, misplaced, bad-load, bad-replacement, Commands, stops, goes-on, TableFrom, complete, refused as table-refused, taken, Session, no-table, runs, OnlySession}
+use Rattle.session.specs.Commands.{TreeHeld, no-tree, tree, Between, at-first, behind-history, LoadNumber, ReplaceNumber, too-many, judged, absent, outside, CommandAt, Command, load-refused, loads, replacement-refused, replaces, dump-refused, dumps, outOfPlace, Stops, over, bad-line, misplaced, bad-load, bad-replacement, Commands, stops, goes-on, TableFrom, complete, refused as table-refused, taken, no-table, runs, OnlySession}
 use Rattle.session.proofs.Reading.{TableRead, table-read}
-use Rattle.session.proofs.Resting.{settled, rests, load-number, replace-number, dumpNumber, dump-number}
+use Rattle.session.proofs.Resting.{settled, rests, load-number, replace-number, dump-number}
 use Rattle.session.proofs.Updates.{load-carried, replacement-carried}
 use Rattle.session.proofs.Texts.{one-update, one-dump}
-use Rattle.session.proofs.Running.{opens, nodes-behind, sets-text}
+use Rattle.session.proofs.Commands.{opens, nodes-behind, sets-text}
 
 -- ---- the table
 

@@ -26,7 +26,7 @@ use Rattle.texts.proofs.Sofar.{goes}
 use Rattle.texts.proofs.Readings.{read-out, read-turn, read-ends}
 use Rattle.texts.proofs.Passing.{frame-on, none-left, over-taken, taken-type}
 use Rattle.planting.specs.Laws.{AllFit}
-use Rattle.session.specs.Running.{TableFrom, complete, refused, taken}
+use Rattle.session.specs.Commands.{TableFrom, complete, refused, taken}
 
 -- ---- the bound on the frames of a table is never met
 

@@ -22,7 +22,7 @@ use Rattle.demands.specs.Engine.{ours}
 use Rattle.demands.specs.History.{History}
 use Rattle.demands.proofs.Same.{history-to}
 use Rattle.session.specs.Session.{ownMemory}
-use Rattle.session.specs.Running.{TreeHeld, no-tree, tree, Between, at-first, behind-history, LoadNumber, ReplaceNumber, too-many, judged, absent, outside}
+use Rattle.session.specs.Commands.{TreeHeld, no-tree, tree, Between, at-first, behind-history, LoadNumber, ReplaceNumber, too-many, judged, absent, outside}
 
 -- ---- behind a history
 

@@ -29,7 +29,7 @@ use Rattle.demands.proofs.Ours.{ours-2, ours-3}
 use Rattle.demands.proofs.Circles.{every-tree-by-rank}
 use Rattle.session.specs.Session.{Told, stepThen, stepsTold, toDone}
 use Rattle.session.specs.Lines.{UpdateLines, then-round, then-done, UpdateText, LoadText, ReplacementText}
-use Rattle.session.specs.Running.{UpdateDone}
+use Rattle.session.specs.Commands.{UpdateDone}
 use Rattle.session.proofs.Resting.{settled}
 
 -- a call with another answer

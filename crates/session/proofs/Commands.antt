@@ -38,7 +38,7 @@ use Rattle.planting.specs.Planting.{Nodes, good, bad, nodesAt}
 use Rattle.planting.proofs.Trees.{nodes-forth}
 use Rattle.session.specs.Session.{Told, toDone, openedThen, dumpOr, dumpTold, andOn, withNodes, command, commandsFrom, ownMemory, afterTable, session}
 use Rattle.session.specs.Lines.{SetsText}
-use Rattle.session.specs.Running.{TreeHeld, no-tree, tree, Between, at-first, behind-history, LoadNumber, ReplaceNumber, absent, CommandAt, Command, load-refused, loads, replacement-refused, replaces, dump-refused, dumps, outOfPlace, over, bad-line, misplaced, bad-load, bad-replacement, Commands, stops, goes-on, TableFrom, Session, no-table, runs, EverySession}
+use Rattle.session.specs.Commands.{TreeHeld, no-tree, tree, Between, at-first, behind-history, LoadNumber, ReplaceNumber, absent, CommandAt, Command, load-refused, loads, replacement-refused, replaces, dump-refused, dumps, outOfPlace, over, bad-line, misplaced, bad-load, bad-replacement, Commands, stops, goes-on, TableFrom, Session, no-table, runs, EverySession}
 use Rattle.session.proofs.Reading.{TableRead, table-is, table-read, words-fit}
 use Rattle.session.proofs.Resting.{settled, Kept, keeps, rests, load-number, replace-number, dumpNumber, dump-number}
 use Rattle.session.proofs.Updates.{answered, load-carried, replacement-carried}
@@ -124,10 +124,10 @@ replacement-accepted {t = t} {new} {newOwns} {point} {r = r} {m} (behind-history
 -- ---- the commands: n of them at the most, as many as there are bytes left
 
 module _ (s t : List ℕ) (q : TableRead t) where
-  abbrev Runs : ℕ → Type 0
-  Runs n = (place line : ℕ) (h : TreeHeld) (r : Record) (m : Memory) → Between t h r m → length s ≤ n + place → Commands s t place line h r m (commandsFrom n s t place line r m)
+  abbrev UpTo : ℕ → Type 0
+  UpTo n = (place line : ℕ) (h : TreeHeld) (r : Record) (m : Memory) → Between t h r m → length s ≤ n + place → Commands s t place line h r m (commandsFrom n s t place line r m)
 
-  module _ (n : ℕ) (rest : Runs n) (place line : ℕ) (h : TreeHeld) (r : Record) (m : Memory) (b : Between t h r m) (enough : length s ≤ suc n + place) where
+  module _ (n : ℕ) (rest : UpTo n) (place line : ℕ) (h : TreeHeld) (r : Record) (m : Memory) (b : Between t h r m) (enough : length s ≤ suc n + place) where
     abbrev go : ℕ → ℕ → Record → Memory → List ℕ
     go = commandsFrom n s t
 
@@ -203,7 +203,7 @@ module _ (s t : List ℕ) (q : TableRead t) where
     by-frame (Refused refusal at) e = stops (bad-line e)
     by-frame Over e = stops (over e)
 
-  commands-run : (n : ℕ) → Runs n
+  commands-run : (n : ℕ) → UpTo n
   unfolding commandsFrom
   commands-run zero place line h r m b enough = stops (over (none-left s place line (omega arith)))
   commands-run (suc n) place line h r m b enough = let rest = commands-run n in by-frame n rest place line h r m b enough (frameAt s place line .frame) refl

@@ -1,5 +1,5 @@
--- A session as a relation between its text and what is printed for it, without a bound on its commands or steps and with no case that should not come:
--- table, commands, and what our engine holds between them. Assumes nothing.
+-- A session as a relation between its text and what is printed for it: the table, the commands, and what our engine holds between them. No number bounds its
+-- frames, commands or steps, and it has no case for what never comes. Assumes nothing.
 use mathlib.Core.Path.{_≡_}
 use mathlib.Core.Bool.{Bool, true, false}
 use mathlib.Core.List.{List, [], _++_}
@@ -44,15 +44,16 @@ pub data Between (t : List ℕ) : TreeHeld → Record → Memory → Type 0 wher
   at-first : Between t no-tree emptyRecord ownMemory
   behind-history : {ns owns : List ℕ} {r : Record} {m : Memory} → History ours t ns owns r m → Between t (tree ns owns) r m
 
--- ---- the numbers of a load and a replacement in a session, 0 where it is accepted. What else their orders name can't come between two commands: the memory
--- is long enough, table, record and held tree are sound, and no update is open
+-- ---- the number that a load or a replacement gets in a session, 0 where it is accepted. What else their orders of refusals name never comes between two
+-- commands: the memory is long enough, table, record and held tree are sound, and no update is open
 
--- "load [..] 8, 6/7."
+-- a load: 8 for too many nodes, else what the tree is judged by
 pub data LoadNumber (t ns owns : List ℕ) : ℕ → Type 0 where
   too-many : 512 < length ns → LoadNumber t ns owns 8
   judged : {n : ℕ} → length ns ≤ 512 → judgeTree t ns owns 0 ≡ n → LoadNumber t ns owns n
 
--- "Replacement [..] 16, [..] 9, 8, new part 6/7."
+-- a replacement: 16 where no tree is held, 9 for a point outside it, 8 where the tree would have too many nodes, else what the new part is judged by, whose root
+-- is to have the symbol of the point
 pub data ReplaceNumber (t : List ℕ) (point : ℕ) (new newOwns : List ℕ) : TreeHeld → ℕ → Type 0 where
   absent : ReplaceNumber t point new newOwns no-tree 16
   outside : {ns owns : List ℕ} → length ns ≤ point → ReplaceNumber t point new newOwns (tree ns owns) 9
@@ -93,7 +94,7 @@ pub data Command (s t : List ℕ) (place line : ℕ) : TreeHeld → Record → M
       → UpdateDone t (replaceCall t m r point new newOwns) (nodesAfter t ns new point) (ownsAfter t ns owns newOwns point) r′ m′
       → ReplacementText t ns owns point new newOwns text
       → Command s t place line (tree ns owns) r m text place′ line′ (tree (nodesAfter t ns new point) (ownsAfter t ns owns newOwns point)) r′ m′
-  -- "16: [..] dump with no tree"
+  -- refused where no tree is held
   dump-refused : {r : Record} {m : Memory} → frameAt s place line .frame ≡ Dump
       → Command s t place line no-tree r m (refusalText 16 line) (frameAt s place line .place) (frameAt s place line .line) no-tree r m
   dumps : {r : Record} {m : Memory} {ns owns text : List ℕ} → frameAt s place line .frame ≡ Dump → SetsText t ns owns text
