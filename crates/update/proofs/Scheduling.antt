@@ -11,7 +11,7 @@ use Rattle.climb.specs.Circuit.{workedOf, roundsAt, roundsTo}
 use Rattle.climb.proofs.Lists.{le-or-lt}
 use Rattle.climb.proofs.Sums.{sum-mono}
 use Rattle.climb.proofs.Working.{adds}
-use Rattle.update.specs.Demands.{Scheduled, Schedule, OneSchedule}
+use Rattle.update.specs.Course.{Scheduled, Schedule, OneSchedule}
 
 module _ (S : System) (R : List (List ℕ)) (sown : ℕ → Bool) (b : Assignment) where
   pub rounds-mono : (i j : ℕ) → i ≤ j → roundsTo S R sown b i ≤ roundsTo S R sown b j

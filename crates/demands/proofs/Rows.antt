@@ -15,19 +15,21 @@ use Rattle.climb.specs.Circuit.{circleAt, dueOf}
 use Rattle.climb.specs.Memory.{at}
 use Rattle.climb.proofs.Lists.{le-or-lt}
 use Rattle.wire.specs.Instances.{system}
 use Rattle.update.specs.declared.Record.{Record}
 use Rattle.update.specs.Records.{isOpen, isLoad, beyond}
 use Rattle.update.specs.Memories.{Memory}
 use Rattle.update.specs.Refusals.{heldRefusal, stepRefusal}
 use Rattle.update.specs.Within.{Roomy}
-use Rattle.update.specs.Steps.{sownOf, survives, changedOf, dueFrom, doneMade, Outcome, round, done, stepOf, onward, Ending, paused, finished, Ran, runOf}
-use Rattle.update.specs.Calls.{Said, said, Left, Ranged, unless, systemOf, circlesOf, withSets, stepLeft, runLeft, stepCall, runCall}
-use Rattle.update.specs.Demands.{ranOf, wholeOf}
-use Rattle.update.specs.History.{leaving, ranged, Working, begun, stepped, ran, Worked, by-step, by-run}
+use Rattle.update.specs.Steps.{sownOf, survives, changedOf, dueFrom, doneMade, Outcome, round, done, stepOf, continued, Ending, paused, finished, Ran, runOf}
+use Rattle.update.specs.Calls.{leaving, Ranged, ranged, unless, systemOf, circlesOf, withSets, stepLeft, runLeft, stepCall, runCall}
+use Rattle.update.specs.Course.{ranOf, wholeOf}
 use Rattle.update.proofs.Within.{short-means}
 use Rattle.update.proofs.Refusing.{all-exactly}
 use Rattle.update.proofs.Running.{pauses, finishes, runs-on, never-beyond}
 use Rattle.update.proofs.Ready.{circles, Ready, begins}
+use Rattle.update.proofs.Openings.{parts}
+use Rattle.demands.specs.Engine.{ours}
+use Rattle.demands.specs.History.{Working, at-start, and-step, and-run, WorkedToDone, by-step, by-run}
 
 -- ---- a step looks at the before values alone, not at the buffer behind them
 
@@ -35,20 +37,20 @@ due-alike : (S : System) (R : List (List ℕ)) (r : Record) (b b′ s : List ℕ
 unfolding dueFrom
 due-alike S R r b b′ s e = ap (λ (u : Assignment). leastFrom (λ i. dueOf S (sownOf r) u (at s) (circleAt R i)) (length R - r .rank) (r .rank)) e
 
-pub changed-alike : (S : System) (r : Record) (b b′ s : List ℕ) → at b ≡ at b′ → changedOf S r b s ≡ changedOf S r b′ s
+changed-alike : (S : System) (r : Record) (b b′ s : List ℕ) → at b ≡ at b′ → changedOf S r b s ≡ changedOf S r b′ s
 unfolding changedOf
 changed-alike S r b b′ s e =
     ap (λ (u : Assignment). cond (isLoad (r .«open»)) 0 (length (keep (λ x. S .declared x && survives r x && not (eqb (at s x) (u x))) (upFrom 0 (S .size))))) e
 
-pub step-alike : (S : System) (R : List (List ℕ)) (r : Record) (b b′ s : List ℕ) → at b ≡ at b′ → stepOf S R r b s ≡ stepOf S R r b′ s
+step-alike : (S : System) (R : List (List ℕ)) (r : Record) (b b′ s : List ℕ) → at b ≡ at b′ → stepOf S R r b s ≡ stepOf S R r b′ s
 unfolding stepOf doneMade
 step-alike S R r b b′ s e = rw (due-alike S R r b b′ s e, changed-alike S r b b′ s e)
 
-again : (o : Outcome) (r : Record) (s : List ℕ) (f g : Record → List ℕ → Ran) → f r s ≡ g r s → onward o r s f ≡ onward o r s g
+pub again : (o : Outcome) (r : Record) (s : List ℕ) (f g : Record → List ℕ → Ran) → f r s ≡ g r s → continued o r s f ≡ continued o r s g
 again (round a k c d) r s f g e = rw e
 again (done a c d) r s f g e = refl
 
-pub run-alike : (S : System) (R : List (List ℕ)) (b b′ : List ℕ) → at b ≡ at b′ → (n : ℕ) (r : Record) (s : List ℕ) → runOf S R b n r s ≡ runOf S R b′ n r s
+run-alike : (S : System) (R : List (List ℕ)) (b b′ : List ℕ) → at b ≡ at b′ → (n : ℕ) (r : Record) (s : List ℕ) → runOf S R b n r s ≡ runOf S R b′ n r s
 unfolding runOf
 run-alike S R b b′ e zero r s = refl
 run-alike S R b b′ e (suc n) r s =
@@ -57,20 +59,8 @@ run-alike S R b b′ e (suc n) r s =
 
 -- ---- the calls, while the update is open
 
-said-same : {A : Type 0} {a b : A} → said a ≡ said b → a ≡ b
-said-same e = cc
-
-pub never-both : {c e x : ℕ} → paused ≡ finished c e x → ⊥
+never-both : {c e x : ℕ} → paused ≡ finished c e x → ⊥
 never-both h = let z : _≡_ {A = ℕ} 0 1 = cc in absurd (omega arith)
-
--- what one call leaves fits no second answer, record or memory
-pub record Parts {A : Type 0} (a a′ : A) (r r′ : Record) (m m′ : Memory) : Type 0 where
-  pub answer : a ≡ a′
-  pub next : r ≡ r′
-  pub memory : m ≡ m′
-
-pub parts : {A : Type 0} {a a′ : A} {r r′ : Record} {m m′ : Memory} → leaving a r m ≡ leaving a′ r′ m′ → Parts a a′ r r′ m m′
-parts {A} e = record { answer = said-same (ap (λ (l : Left (Said A)). l .answer) e); next = ap (λ (l : Left (Said A)). l .next) e; memory = ap (λ (l : Left (Said A)). l .memory) e }
 
 taken-step : (t : List ℕ) (m : Memory) (r : Record) → stepRefusal t m r ≡ 0
     → stepCall t m r ≡ stepLeft m (stepOf (systemOf t m r) (circlesOf t m r) r (m .before) (m .sets))
@@ -223,14 +213,14 @@ module _ {t ns owns : List ℕ} {r : Record} {m : Memory} (q : Ready t ns owns r
       (λ (l : whole < n + k). record { budget = n + k; enough = l; ending = b .ending; next = b .next; memory = b .memory })
       (le-or-lt (n + k) whole)
 
-  pub amid : {n : ℕ} {r′ : Record} {m′ : Memory} → Working t r m n r′ m′ → Amid n r′ m′
+  pub amid : {n : ℕ} {r′ : Record} {m′ : Memory} → Working ours t r m n r′ m′ → Amid n r′ m′
   unfolding runOf
-  amid begun = record { time = zero-le; next = refl; memory = refl }
-  amid {n = suc n} {r′} {m′} (stepped {least = least} {k = k} {size = size} {closed = closed} {r = r₁} {m = m₁} w h) =
+  amid at-start = record { time = zero-le; next = refl; memory = refl }
+  amid {n = suc n} {r′} {m′} (and-step {least = least} {k = k} {size = size} {closed = closed} {r = r₁} {m = m₁} w h) =
       rw (add-one n) at (pauses-amid n 1 1 r′ m′ (behind-round n least k size closed r₁ r′ m₁ m′ (amid w) h))
-  amid {r′ = r′} {m′ = m′} (ran {n = n} {k = k} {r = r₁} {m = m₁} budget w h) = pauses-amid n budget k r′ m′ (behind-run n budget k paused r₁ r′ m₁ m′ (amid w) h)
+  amid {r′ = r′} {m′ = m′} (and-run {n = n} {k = k} {r = r₁} {m = m₁} budget w h) = pauses-amid n budget k r′ m′ (behind-run n budget k paused r₁ r′ m₁ m′ (amid w) h)
 
-  pub ended : {c e x : ℕ} {r′ : Record} {m′ : Memory} → Worked t r m c e x r′ m′ → Ended c e x r′ m′
+  pub ended : {c e x : ℕ} {r′ : Record} {m′ : Memory} → WorkedToDone ours t r m c e x r′ m′ → Ended c e x r′ m′
   ended {c} {e} {x} {r′} {m′} (by-step {n = n} {r = r₁} {m = m₁} w h) = finishes-ended n 1 0 c e x r′ m′ (behind-done n c e x r₁ r′ m₁ m′ (amid w) h)
   ended {c} {e} {x} {r′} {m′} (by-run {n = n} {k = k} {r = r₁} {m = m₁} budget w h) =
       finishes-ended n budget k c e x r′ m′ (behind-run n budget k (finished c e x) r₁ r′ m₁ m′ (amid w) h)

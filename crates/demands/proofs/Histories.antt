@@ -14,19 +14,22 @@ use Rattle.climb.specs.Memory.{at}
 use Rattle.climb.proofs.Lists.{either}
 use Rattle.climb.proofs.Working.{untouched, after-small}
 use Rattle.climb.proofs.Finishing.{lawful-circles}
+use Rattle.tree.specs.Replace.{part}
 use Rattle.wire.specs.Instances.{declared, system}
+use Rattle.wire.specs.Laws.{Words}
 use Rattle.wire.specs.Replaced.{ownsAfter}
 use Rattle.update.specs.declared.Record.{Record}
 use Rattle.update.specs.Records.{shut}
 use Rattle.update.specs.Memories.{Memory}
 use Rattle.update.specs.Steps.{sownOf, Ran}
 use Rattle.update.specs.Calls.{withSets}
-use Rattle.update.specs.Demands.{ranOf, wholeOf, Finishes}
-use Rattle.update.specs.History.{Worked, Opening, loads, replaces, History, finishes}
+use Rattle.update.specs.Course.{ranOf, wholeOf, Finishes}
 use Rattle.update.proofs.Running as running
 use Rattle.update.proofs.Ready.{circles, lawful, in-rank, Ready, begins, Settled}
-use Rattle.update.proofs.Rows.{ended}
-use Rattle.update.proofs.Openings.{ready-load, ready-replacement}
+use Rattle.update.proofs.Openings.{words-exchanged, ready-load, ready-replacement}
+use Rattle.demands.specs.Engine.{Engine, ours}
+use Rattle.demands.specs.History.{WorkedToDone, Opening, loads, replaces, History, finishes}
+use Rattle.demands.proofs.Rows.{ended}
 
 module _ {t ns owns : List ℕ} {r : Record} {m : Memory} (q : Ready t ns owns r m) where
   abbrev S : System
@@ -66,18 +69,30 @@ settled-as : {t ns owns : List ℕ} {r r′ : Record} {m m′ : Memory} (q : Rea
     → r′ ≡ ranOf (system t ns owns) (circles t ns owns) r (m .sets) n .next → m′ ≡ withSets m (ranOf (system t ns owns) (circles t ns owns) r (m .sets) n .sets) → Settled t ns owns r′ m′
 settled-as q n h a b = rw (a, b) (finished-settled q n h)
 
-pub settled : {t ns owns : List ℕ} {r r′ : Record} {m m′ : Memory} {c e x : ℕ} → Ready t ns owns r m → Worked t r m c e x r′ m′ → Settled t ns owns r′ m′
+pub settled : {t ns owns : List ℕ} {r r′ : Record} {m m′ : Memory} {c e x : ℕ} → Ready t ns owns r m → WorkedToDone ours t r m c e x r′ m′ → Settled t ns owns r′ m′
 settled q w =
     let d = ended q w in
     settled-as q (d .budget) (d .enough) (d .next) (d .memory)
 
 mutual
-  pub settled-history : {t ns owns : List ℕ} {r : Record} {m : Memory} → History t ns owns r m → Settled t ns owns r m
+  pub settled-history : {t ns owns : List ℕ} {r : Record} {m : Memory} → History ours t ns owns r m → Settled t ns owns r m
   settled-history (finishes o w) = settled (ready-opening o) w
 
-  pub ready-opening : {t ns owns : List ℕ} {r : Record} {m : Memory} → Opening t ns owns r m → Ready t ns owns r m
+  pub ready-opening : {t ns owns : List ℕ} {r : Record} {m : Memory} → Opening ours t ns owns r m → Ready t ns owns r m
   ready-opening (loads m r ns owns w o h) = ready-load m r w o h
   ready-opening {t} {r = r′} {m = m′} (replaces {ns = ns} {owns = owns} {ns′ = ns′} {owns′ = owns′} p point new newOwns w h a b) =
       let q = ready-replacement point new newOwns (settled-history p) w h in
       let c = subst (λ (l : List ℕ). Ready t l (ownsAfter t ns owns newOwns point) r′ m′) (sym a) q in
       subst (λ (l : List ℕ). Ready t ns′ l r′ m′) (sym b) c
+
+-- ---- of any engine: the words of a history's table and own sets
+
+mutual
+  pub history-words : {E : Engine} {t ns owns : List ℕ} {r : Record} {m : Memory} → History E t ns owns r m → Words t × Words owns
+  history-words (finishes o w) = opening-words o
+
+  opening-words : {E : Engine} {t ns owns : List ℕ} {r : Record} {m : Memory} → Opening E t ns owns r m → Words t × Words owns
+  opening-words (loads m r ns owns w o h) = (w, o)
+  opening-words {t = t} (replaces {ns = ns} {owns = owns} p point new newOwns w h a b) =
+      let q = history-words p in
+      (q .0, subst Words (sym b) (words-exchanged owns point (part t ns point) newOwns (q .1) w))

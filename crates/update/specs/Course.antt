@@ -1,6 +1,6 @@
--- What an update comes to from its opening to done, over the definition of a step: demands 2 and 3. Assumes nothing.
+-- The course of an update from its opening to done, over the definition of a step and any system. Assumes nothing.
 use mathlib.Core.Path.{_≡_}
-use mathlib.Core.Bool.{Bool, true, false}
+use mathlib.Core.Bool.{Bool, true, false, cond}
 use mathlib.Core.List.{List}
 use Prim.Native.Nat.{ℕ, suc, _+_, _*_, _≤_, _<_}
 use lib.Dec.{eqb}
@@ -55,10 +55,14 @@ OneSchedule = (S : System) (R : List (List ℕ)) (sown : ℕ → Bool) (b : Assi
 
 -- ---- each step
 
--- the record at rank i and round k: "circles worked; evaluations", with none at its limit
+-- the record at rank i and round k: "circles worked; evaluations", simply counted
 abbrev pub recordAt : System → List (List ℕ) → Record → List ℕ → ℕ → ℕ → Record
 recordAt S R r before i k =
     working r i k (circlesTo S R (sownOf r) (at before) i) (evaluationsTo S R (sownOf r) (at before) i + length (circleAt R i) * k)
+
+-- and behind round k of circle i: "when a circle closes, the rank is one past its own and the round is 0"
+abbrev pub recordBehind : System → List (List ℕ) → Record → List ℕ → ℕ → ℕ → Record
+recordBehind S R r before i k = cond (eqb k (roundsAt S R (sownOf r) (at before) i)) (recordAt S R r before (suc i) 0) (recordAt S R r before i k)
 
 -- the sets there: between two circles, or after some rounds of circle i, which is due and has more to come
 pub data Phase (S : System) (R : List (List ℕ)) (sown : ℕ → Bool) (b : Assignment) (i : ℕ) : ℕ → Assignment → Type 0 where
@@ -67,7 +71,7 @@ pub data Phase (S : System) (R : List (List ℕ)) (sown : ℕ → Bool) (b : Ass
       → v ≡ stage S (member (circleAt R i)) (afterOf S R sown b i) (suc k) → Phase S R sown b i (suc k) v
 
 -- where an update stands after n rounds
-pub record Stands (S : System) (R : List (List ℕ)) (r : Record) (before : List ℕ) (n : ℕ) (next : Record) (sets : List ℕ) : Type 0 where
+pub record StandsAfter (S : System) (R : List (List ℕ)) (r : Record) (before : List ℕ) (n : ℕ) (next : Record) (sets : List ℕ) : Type 0 where
   pub i : ℕ
   pub k : ℕ
   pub rank : i ≤ length R
@@ -83,6 +87,8 @@ pub record RoundDone (S : System) (R : List (List ℕ)) (r : Record) (before : L
   -- the sets are stage k of the circle's climb, and elsewhere as they were
   pub value : at (m .sets) ≡ stage S (member (circleAt R i)) (afterOf S R (sownOf r) (at before) i) k
   pub elsewhere : (x : ℕ) → member (circleAt R i) x ≡ false → at (m .sets) x ≡ at s x
+  -- and the record has counted the round, with no number at its limit
+  pub next : m .next ≡ recordBehind S R r before i k
 
 -- the step after n rounds, where there are more to make
 pub record NextRound (S : System) (R : List (List ℕ)) (r : Record) (before : List ℕ) (n : ℕ) (s : List ℕ) (m : Made) : Type 0 where
@@ -90,7 +96,7 @@ pub record NextRound (S : System) (R : List (List ℕ)) (r : Record) (before : L
   pub k : ℕ
   pub scheduled : Scheduled S R (sownOf r) (at before) i k n
   pub made : RoundDone S R r before i k s m
-  pub stands : Stands S R r before (suc n) (m .next) (m .sets)
+  pub stands : StandsAfter S R r before (suc n) (m .next) (m .sets)
 
 abbrev pub NthRound : Type 0
 NthRound = (S : System) (R : List (List ℕ)) (r : Record) (before : List ℕ) → Begins S R r before → (n : ℕ) → n < wholeOf S R r before
@@ -107,7 +113,7 @@ EachRound = (S : System) (R : List (List ℕ)) (r : Record) (before : List ℕ) 
 pub record Pauses (S : System) (R : List (List ℕ)) (r : Record) (before : List ℕ) (n : ℕ) (a : Ran) : Type 0 where
   pub rounds : a .rounds ≡ n
   pub ending : a .ending ≡ paused
-  pub stands : Stands S R r before n (a .next) (a .sets)
+  pub stands : StandsAfter S R r before n (a .next) (a .sets)
 
 abbrev pub AllPause : Type 0
 AllPause = (S : System) (R : List (List ℕ)) (r : Record) (before : List ℕ) → Begins S R r before → (n : ℕ) → n ≤ wholeOf S R r before
@@ -151,17 +157,6 @@ LoadEvaluates = (S : System) (R : List (List ℕ)) (r t : Record) (b b′ : List
     → evaluationsTo S R (sownOf r) (at b) (length R) ≤ evaluationsTo S R (sownOf t) (at b′) (length R)
 
 -- ---- "a round, circles or evaluations number that would pass its limit stays at the limit. Demands 2 and 3 speak of [..] where that never happens."
-
--- at every pause
-pub record Below (r : Record) : Type 0 where
-  pub rank : r .rank ≤ 4092
-  pub round : r .round < 262145
-  pub circles : r .circles ≤ 4092
-  pub evaluations : r .evaluations ≤ 1073745920
-
-abbrev pub NeverAtLimits : Type 0
-NeverAtLimits = (S : System) (R : List (List ℕ)) (r : Record) (before : List ℕ) → Begins S R r before → (n : ℕ) → n ≤ wholeOf S R r before
-    → Below (ranOf S R r before n .next)
 
 -- so no pause leaves a record that is refused by 11
 abbrev pub NeverBeyond : Type 0
