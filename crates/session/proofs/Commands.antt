@@ -19,8 +19,7 @@ use Rattle.update.specs.Records.{emptyRecord}
 use Rattle.update.specs.Memories.{Memory, nodesOf}
 use Rattle.update.specs.Refusals.{loadRefusal, replaceRefusal}
 use Rattle.update.specs.Refused.{Leaves}
-use Rattle.update.specs.Calls.{Said, refused, said, Left, Opened, is-open, loadCall, replaceCall, dumped}
-use Rattle.update.specs.History.{leaving}
+use Rattle.update.specs.Calls.{Said, refused, said, Left, leaving, Opened, is-open, loadCall, replaceCall, dumped}
 use Rattle.update.proofs.Refusing.{all-leave}
 use Rattle.demands.specs.Engine.{ours}
 use Rattle.demands.specs.History.{History}
@@ -40,7 +39,7 @@ use Rattle.session.specs.Session.{Told, toDone, openedThen, dumpOr, dump
 use Rattle.session.specs.Lines.{SetsText}
 use Rattle.session.specs.Commands.{TreeHeld, no-tree, tree, Between, at-first, behind-history, LoadNumber, ReplaceNumber, absent, CommandAt, Command, load-refused, loads, replacement-refused, replaces, dump-refused, dumps, outOfPlace, over, bad-line, misplaced, bad-load, bad-replacement, Commands, stops, goes-on, TableFrom, Session, no-table, runs, EverySession}
 use Rattle.session.proofs.Reading.{TableRead, table-is, table-read, words-fit}
-use Rattle.session.proofs.Resting.{settled, Kept, keeps, rests, load-number, replace-number, dumpNumber, dump-number}
+use Rattle.session.proofs.Resting.{finished-state, Kept, keeps, rests, load-number, replace-number, dumpNumber, dump-number}
 use Rattle.session.proofs.Updates.{answered, load-carried, replacement-carried}
 
 -- ---- a dump
@@ -63,7 +62,7 @@ declared-dumped {t} {ns} {r = r} {m} k x h =
 pub sets-text : {t ns owns : List ℕ} {r : Record} {m : Memory} → History ours t ns owns r m
     → SetsText t ns owns (dumpText (map (λ x. record { instance = x; value = at (m .sets) x }) (dumped t m r)))
 sets-text {t} {ns} {owns} {r} {m} h =
-    let k = keeps (settled h) in
+    let k = keeps (finished-state h) in
     record {
       sets = at (m .sets);
       least = ours-2 .holds t ns owns r m h .sets;

@@ -14,13 +14,12 @@ use Rattle.update.specs.declared.Record.{Record}
 use Rattle.update.specs.Records.{emptyRecord}
 use Rattle.update.specs.Memories.{Memory}
 use Rattle.update.specs.Refused.{Leaves}
-use Rattle.update.specs.Calls.{Said, Left, Opened, is-open, loadCall, replaceCall}
-use Rattle.update.specs.History.{leaving}
+use Rattle.update.specs.Calls.{Said, Left, leaving, Opened, is-open, loadCall, replaceCall}
 use Rattle.update.proofs.Refusing.{all-leave}
 use Rattle.demands.specs.Engine.{ours}
 use Rattle.demands.specs.History.{History}
 use Rattle.demands.specs.Asked.{ByRank, newRule, surviving, valueBefore}
-use Rattle.demands.proofs.Ours.{one-least}
+use Rattle.demands.proofs.Updating.{one-least}
 use Rattle.demands.proofs.Circles.{every-tree-by-rank}
 use Rattle.frames.specs.Frames.{frameAt}
 use Rattle.frames.specs.Out.{refusalText}
@@ -39,7 +38,7 @@ use Rattle.session.specs.Session.{Told, openedThen, toDone, dumpTold, an
 use Rattle.session.specs.Lines.{LoadText, ReplacementText, UpdateText, SetsText}
 use Rattle.session.specs.Commands.{TreeHeld, no-tree, tree, Between, at-first, behind-history, LoadNumber, ReplaceNumber, too-many, judged, absent, outside, CommandAt, Command, load-refused, loads, replacement-refused, replaces, dump-refused, dumps, outOfPlace, Stops, over, bad-line, misplaced, bad-load, bad-replacement, Commands, stops, goes-on, TableFrom, complete, refused as table-refused, taken, no-table, runs, OnlySession}
 use Rattle.session.proofs.Reading.{TableRead, table-read}
-use Rattle.session.proofs.Resting.{settled, rests, load-number, replace-number, dump-number}
+use Rattle.session.proofs.Resting.{finished-state, rests, load-number, replace-number, dump-number}
 use Rattle.session.proofs.Updates.{load-carried, replacement-carried}
 use Rattle.session.proofs.Texts.{one-update, one-dump}
 use Rattle.session.proofs.Commands.{opens, nodes-behind, sets-text}
@@ -101,8 +100,7 @@ told-opened t line {r = r} {m} {left} l e =
 one-rank : {t ns owns : List ℕ} {r : Record} {m : Memory} → History ours t ns owns r m
     → (A B : List (List ℕ)) → ByRank (graphOf (system t ns owns)) A → ByRank (graphOf (system t ns owns)) B → A ≡ B
 one-rank {t} {ns} {owns} h A B a b =
-    let q = settled h .sound in
-    let only = every-tree-by-rank t ns owns (q .table) (q .tree) (q .few) .1 in
+    let only = every-tree-by-rank t ns owns (finished-state h .sound) .1 in
     only A a ∙ sym (only B b)
 
 -- ---- the commands

@@ -16,18 +16,17 @@ use Rattle.update.specs.Records.{isOpen, beyond, shut, emptyRecord}
 use Rattle.update.specs.Memories.{Memory, nodesOf}
 use Rattle.update.specs.Refusals.{firstRefusal, short, heldRefusal, loadRefusal, passes, replaceRefusal, lookRefusals}
 use Rattle.update.proofs.Within.{short-means, all-shut}
-use Rattle.update.proofs.Ready.{Settled}
-use Rattle.update.proofs.Histories.{settled-history}
 use Rattle.demands.specs.Engine.{ours}
 use Rattle.demands.specs.History.{History}
-use Rattle.demands.proofs.Same.{history-to}
+use Rattle.demands.specs.Demands.{FinishedState}
+use Rattle.demands.proofs.Ours.{ours-2}
 use Rattle.session.specs.Session.{ownMemory}
 use Rattle.session.specs.Commands.{TreeHeld, no-tree, tree, Between, at-first, behind-history, LoadNumber, ReplaceNumber, too-many, judged, absent, outside}
 
 -- ---- behind a history
 
-pub settled : {t ns owns : List ℕ} {r : Record} {m : Memory} → History ours t ns owns r m → Settled t ns owns r m
-settled h = settled-history (history-to h)
+pub finished-state : {t ns owns : List ℕ} {r : Record} {m : Memory} → History ours t ns owns r m → FinishedState ours t ns owns r m
+finished-state {t} {ns} {owns} {r} {m} h = ours-2 .holds t ns owns r m h
 
 -- ---- the memory is long enough, the record within its limits, and no update is open
 
@@ -49,9 +48,9 @@ pub rests : {t : List ℕ} {h : TreeHeld} {r : Record} {m : Memory} → Between 
 unfolding emptyRecord
 rests at-first = record { long = own-long; within = all-shut false 0 .within (omega arith); idle = all-shut false 0 .closed }
 rests {m = m} (behind-history {ns = ns} h) =
-    let q = settled h in
+    let q = finished-state h in
     record {
-      long = short-means m .1 (q .roomy);
+      long = q .room;
       within = ap beyond (q .closed) ∙ all-shut true (length ns) .within (q .sound .few);
       idle = ap (λ (k : Record). isOpen (k .«open»)) (q .closed) ∙ all-shut true (length ns) .closed;
     }
@@ -63,11 +62,11 @@ pub record Kept (t ns owns : List ℕ) (r : Record) (m : Memory) : Type 0 where
   pub nodes : nodesOf m (length ns) ≡ ns
   pub sound : heldRefusal t m r ≡ 0
 
-pub keeps : {t ns owns : List ℕ} {r : Record} {m : Memory} → Settled t ns owns r m → Kept t ns owns r m
+pub keeps : {t ns owns : List ℕ} {r : Record} {m : Memory} → FinishedState ours t ns owns r m → Kept t ns owns r m
 unfolding shut
 keeps {t} {ns} {owns} {r} {m} q =
     let n : r .nodes ≡ length ns = ap (λ (k : Record). k .nodes) (q .closed) in
-    record { held = ap (λ (k : Record). k .held) (q .closed); count = n; nodes = q .nodes; sound = rw (n, q .nodes, q .owns′) (q .sound .tree) }
+    record { held = ap (λ (k : Record). k .held) (q .closed); count = n; nodes = q .nodes; sound = rw (n, q .nodes, q .owned) (q .sound .tree) }
 
 none-held : emptyRecord .held ≡ false
 unfolding emptyRecord shut
@@ -113,7 +112,7 @@ module _ (t : List ℕ) {r : Record} {m : Memory} (i : Idle r m) (table : judgeT
 pub replace-number : {t : List ℕ} {h : TreeHeld} {r : Record} {m : Memory} → Between t h r m → judgeTable t ≡ 0 → (point : ℕ) (new newOwns : List ℕ)
     → ReplaceNumber t point new newOwns h (replaceRefusal t m r point new newOwns)
 replace-number {t} at-first table point new newOwns = rw (replace-absent t (rests {t = t} at-first) table none-held point new newOwns) absent
-replace-number {t} (behind-history h) table point new newOwns = replace-held t (rests (behind-history h)) table (keeps (settled h)) point new newOwns
+replace-number {t} (behind-history h) table point new newOwns = replace-held t (rests (behind-history h)) table (keeps (finished-state h)) point new newOwns
 
 -- a dump's
 abbrev pub dumpNumber : TreeHeld → ℕ
@@ -122,4 +121,4 @@ dumpNumber (tree ns owns) = 0
 
 pub dump-number : {t : List ℕ} {h : TreeHeld} {r : Record} {m : Memory} → Between t h r m → judgeTable t ≡ 0 → firstRefusal (lookRefusals t m r 0) ≡ dumpNumber h
 dump-number {t} at-first table = dump-absent t (rests {t = t} at-first) table none-held
-dump-number {t} (behind-history h) table = dump-held t (rests (behind-history h)) table (keeps (settled h))
+dump-number {t} (behind-history h) table = dump-held t (rests (behind-history h)) table (keeps (finished-state h))

@@ -13,10 +13,9 @@ use Rattle.climb.proofs.Lists.{le-or-lt}
 use Rattle.climb.proofs.Sums.{sum-mono}
 use Rattle.climb.proofs.Rounds.{takes-unique}
 use Rattle.wire.specs.Instances.{system}
-use Rattle.update.specs.Meaning.{Due}
-use Rattle.update.specs.Promises.{overDue, Turn, Climbing}
+use Rattle.demands.specs.Work.{Due, overDue, Climbing, RoundTurn}
 use Rattle.demands.specs.Asked.{ByRank, changedFrom}
-use Rattle.demands.proofs.Ours.{one-least}
+use Rattle.demands.proofs.Updating.{one-least}
 use Rattle.demands.proofs.Circles.{rising-same}
 use Rattle.frames.specs.Out.{dumpText}
 use Rattle.session.specs.Lines.{UpdateLines, then-round, then-done, UpdateText, SetsText}
@@ -41,10 +40,10 @@ module _ (due : ℕ → Bool) (climb : ℕ → ℕ) where
       let k : overDue due climb (suc i) ≤ overDue due climb j = rw e at (sum-mono (λ i. cond (due i) (climb i) 0) (suc i) (j - suc i)) in
       rw w at k
 
-  turn-within : {count i k n : ℕ} → Turn count due climb i k n → n < overDue due climb count
+  turn-within : {count i k n : ℕ} → RoundTurn count due climb i k n → n < overDue due climb count
   turn-within {count} {i} f = omega (arith, rounds-behind i count (f .worked) (f .rank))
 
-  one-turn : {count i k j l n : ℕ} → Turn count due climb i k n → Turn count due climb j l n → (i ≡ j) × (k ≡ l)
+  one-turn : {count i k j l n : ℕ} → RoundTurn count due climb i k n → RoundTurn count due climb j l n → (i ≡ j) × (k ≡ l)
   one-turn {i = i} {k} {j} {l} f g = ⊎-elim
       (λ (a : i ≤ j). ⊎-elim
       (λ (c : j ≤ i). let e : i ≡ j = omega arith in (e, omega (arith, ap (λ (x : ℕ). overDue due climb x) e)))
@@ -57,7 +56,7 @@ module _ (R : List (List ℕ)) (due : ℕ → Bool) (climb other : ℕ → ℕ) 
   sums : (i : ℕ) → i ≤ length R → overDue due climb i ≡ overDue due other i
   sums i l = due-same due climb other i (λ k h. same k (omega arith))
 
-  turn-as : {i k n : ℕ} → Turn (length R) due other i k n → Turn (length R) due climb i k n
+  turn-as : {i k n : ℕ} → RoundTurn (length R) due other i k n → RoundTurn (length R) due climb i k n
   turn-as {i} f = record {
     rank = f .rank;
     worked = f .worked;

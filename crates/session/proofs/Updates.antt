@@ -19,10 +19,9 @@ use Rattle.update.specs.declared.Record.{Record}
 use Rattle.update.specs.Records.{evaluationsMost}
 use Rattle.update.specs.Memories.{Memory}
 use Rattle.update.specs.Steps.{Outcome, done, Ending, paused, finished}
-use Rattle.update.specs.Calls.{Said, refused, said, Left, Opened, Ranged, is-open, loadCall, replaceCall, stepCall}
-use Rattle.update.specs.History.{leaving, ranged}
+use Rattle.update.specs.Calls.{Said, refused, said, Left, leaving, Opened, Ranged, ranged, is-open, loadCall, replaceCall, stepCall}
 use Rattle.demands.specs.Engine.{ours}
-use Rattle.demands.specs.History.{Working, begun, stepped, Worked, by-step, Opening, loads, replaces, History, finishes}
+use Rattle.demands.specs.History.{Working, at-start, and-step, WorkedToDone, by-step, Opening, loads, replaces, History, finishes}
 use Rattle.demands.specs.Asked.{LeastSets, ByRank, surviving, changedFrom}
 use Rattle.demands.specs.Demands.{ComesToDone, Update, roundsDue, circlesDue, evaluationsDue}
 use Rattle.demands.proofs.Ours.{ours-2, ours-3}
@@ -30,7 +29,7 @@ use Rattle.demands.proofs.Circles.{every-tree-by-rank}
 use Rattle.session.specs.Session.{Told, stepThen, stepsTold, toDone}
 use Rattle.session.specs.Lines.{UpdateLines, then-round, then-done, UpdateText, LoadText, ReplacementText}
 use Rattle.session.specs.Commands.{UpdateDone}
-use Rattle.session.proofs.Resting.{settled}
+use Rattle.session.proofs.Resting.{finished-state}
 
 -- a call with another answer
 pub answered : {A : Type 0} (left : Left A) (a : A) → left .answer ≡ a → left ≡ record { answer = a; next = left .next; memory = left .memory }
@@ -42,7 +41,7 @@ module _ {t : List ℕ} {S : System} {R : List (List ℕ)} {fresh : ℕ → Bool
   -- what the steps behind n rounds tell
   record Tells (told : Told) (n : ℕ) : Type 0 where
     pub lines : UpdateLines R due climb changed n (told .text)
-    pub worked : Worked ours t r₀ m₀ (circlesDue R due) (evaluationsDue R due climb) changed (told .next) (told .memory)
+    pub worked : WorkedToDone ours t r₀ m₀ (circlesDue R due) (evaluationsDue R due climb) changed (told .next) (told .memory)
 
   steps-told : (fuel n : ℕ) (r : Record) (m : Memory) → Working ours t r₀ m₀ n r m → roundsDue R due climb < n + fuel → Tells (stepsTold fuel t r m) n
   unfolding stepsTold
@@ -51,12 +50,12 @@ module _ {t : List ℕ} {S : System} {R : List (List ℕ)} {fresh : ℕ → Bool
       let l : Left (Said Outcome) = stepCall t m r in
       ⊎-elim
       (λ (e : n ≡ roundsDue R due climb).
-      let h = u .ends w e in
+      let h = u .ends w e .answer in
       subst (λ (a : Said Outcome). Tells (stepThen a (l .next) (l .memory) (stepsTold fuel t)) n) (sym h) (record { lines = then-done e; worked = by-step w (answered l _ h) }))
       (λ (e : n < roundsDue R due climb).
       let f = u .turn n e in
       let h = u .makes w (f .0) (f .1) (f .2) .answer in
-      let rest = steps-told fuel (suc n) (l .next) (l .memory) (stepped w (answered l _ h)) (omega arith) in
+      let rest = steps-told fuel (suc n) (l .next) (l .memory) (and-step w (answered l _ h)) (omega arith) in
       subst (λ (a : Said Outcome). Tells (stepThen a (l .next) (l .memory) (stepsTold fuel t)) n) (sym h)
       (record { lines = then-round (f .0) (f .1) (f .2) (rest .lines); worked = rest .worked }))
       (eq-or-lt-of-le (u .last w))
@@ -79,7 +78,7 @@ module _ {t ns owns : List ℕ} {r : Record} {m : Memory} (o : Opening ours t ns
 
   -- it is worked to done, with the limit of evaluations as its budget
   comes : ComesToDone ours t ns owns r m evaluationsMost
-  comes = ours-2 .done t ns owns r r m m 0 o begun evaluationsMost (le-refl evaluationsMost)
+  comes = ours-2 .done t ns owns r r m m 0 o at-start evaluationsMost (le-refl evaluationsMost)
 
   abbrev v : Assignment
   v = at (comes .memory .sets)
@@ -88,17 +87,17 @@ module _ {t ns owns : List ℕ} {r : Record} {m : Memory} (o : Opening ours t ns
   least = ours-2 .holds t ns owns (comes .next) (comes .memory) (comes .history) .sets
 
   by-rank : ByRank (graphOf S) R
-  by-rank = let q = settled (comes .history) .sound in every-tree-by-rank t ns owns (q .table) (q .tree) (q .few) .0
+  by-rank = every-tree-by-rank t ns owns (finished-state (comes .history) .sound) .0
 
   module _ {fresh : ℕ → Bool} {before : Assignment} {due : ℕ → Bool} {climb : ℕ → ℕ} {changed : ℕ} (u : Update ours t S R fresh before v due climb changed r m) where
     few-rounds : roundsDue R due climb < evaluationsMost
     few-rounds = ⊎-elim (λ h. h)
         (λ (h : evaluationsMost ≤ roundsDue R due climb). absurd (not-paused
-        (sym (u .pauses begun evaluationsMost (omega arith)) ∙ ap (λ (l : Left (Said Ranged)). l .answer) (comes .run))))
+        (sym (u .pauses at-start evaluationsMost (omega arith)) ∙ ap (λ (l : Left (Said Ranged)). l .answer) (comes .run))))
         (lt-or-ge (roundsDue R due climb) evaluationsMost)
 
     told : Tells u (toDone t r m) 0
-    told = steps-told u _ 0 r m begun (omega (arith, few-rounds))
+    told = steps-told u _ 0 r m at-start (omega (arith, few-rounds))
 
     told-text : (survives : ℕ → Bool) → changed ≡ changedFrom S survives before v → UpdateText S fresh survives before (toDone t r m .text)
     told-text survives e = record {

@@ -16,7 +16,7 @@ use Rattle.update.specs.Records.{emptyRecord}
 use Rattle.update.specs.Memories.{Memory}
 use Rattle.update.specs.Calls.{Said, said, Left, Opened, is-open, loadCall, replaceCall}
 use Rattle.demands.specs.Engine.{ours}
-use Rattle.demands.specs.History.{Worked, History}
+use Rattle.demands.specs.History.{WorkedToDone, History}
 use Rattle.frames.specs.declared.Frame.{Frame}
 use Rattle.frames.specs.declared.Frame.the-variants.{Header, Symbol, Production, Equation, Node, Load, Replace, Dump, Refused, Over}
 use Rattle.frames.specs.declared.Expected.{Expected}
@@ -75,7 +75,7 @@ pub record UpdateDone (t : List ℕ) (left : Left (Said Opened)) (ns owns : List
   pub circles : ℕ
   pub evaluations : ℕ
   pub changed : ℕ
-  pub worked : Worked ours t (left .next) (left .memory) circles evaluations changed r m
+  pub worked : WorkedToDone ours t (left .next) (left .memory) circles evaluations changed r m
   pub history : History ours t ns owns r m
 
 -- the command finds a tree, a record and a memory, prints a text, and leaves a place, a line, a tree, a record and a memory to those behind it

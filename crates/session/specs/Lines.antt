@@ -12,8 +12,7 @@ use Rattle.climb.specs.System.{Assignment, System, graphOf}
 use Rattle.climb.specs.Circuit.{circleAt}
 use Rattle.wire.specs.Instances.{declared, system}
 use Rattle.wire.specs.Replaced.{nodesAfter, ownsAfter}
-use Rattle.update.specs.Meaning.{Due}
-use Rattle.update.specs.Promises.{Turn, Climbing}
+use Rattle.demands.specs.Work.{Due, Climbing, RoundTurn}
 use Rattle.demands.specs.Asked.{LeastSets, ByRank, newRule, surviving, valueBefore, changedFrom}
 use Rattle.demands.specs.Demands.{roundsDue, circlesDue, evaluationsDue}
 use Rattle.frames.specs.Out.{roundText, doneText, dumpText}
@@ -24,7 +23,7 @@ use Rattle.frames.specs.Out.{roundText, doneText, dumpText}
 -- `changed` is what done reports
 pub data UpdateLines (R : List (List ℕ)) (due : ℕ → Bool) (climb : ℕ → ℕ) (changed : ℕ) : ℕ → List ℕ → Type 0 where
   -- it is the turn of round k of circle i: its least instance, k, its size, and 1 in the last of its rounds
-  then-round : {n : ℕ} {text : List ℕ} (i k : ℕ) → Turn (length R) due climb i k n → UpdateLines R due climb changed (suc n) text
+  then-round : {n : ℕ} {text : List ℕ} (i k : ℕ) → RoundTurn (length R) due climb i k n → UpdateLines R due climb changed (suc n) text
       → UpdateLines R due climb changed n (roundText (getD (circleAt R i) 0 0) k (length (circleAt R i)) (cond (eqb k (climb i)) 1 0) ++ text)
   -- all rounds are made, and `12` comes last
   then-done : {n : ℕ} → n ≡ roundsDue R due climb → UpdateLines R due climb changed n (doneText (circlesDue R due) (evaluationsDue R due climb) changed)
