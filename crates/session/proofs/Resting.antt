@@ -3,14 +3,15 @@ use mathlib.Core.Path.{_≡_, refl, sym, ap, _∙_}
 use mathlib.Core.Bool.{true, false}
 use mathlib.Core.Logic.{⊎-elim}
 use mathlib.Core.List.{List}
-use Prim.Native.Nat.{ℕ, zero, suc, _+_, _-_, _≤_, _<_}
+use Prim.Native.Nat.{ℕ, _+_, _-_, _≤_, _<_}
 use native.Mathlib.Omega.{arith}
 use borrow.Author.Tests.{lt-ltb, le-ltb, le-leb, lt-leb}
 use lib.ListN.{length, length-replicate}
 use Rattle.lines.proofs.Values.{lt-or-ge}
-use Rattle.table.specs.First.{orElse, first}
+use Rattle.table.specs.First.{first}
 use Rattle.table.specs.Judge.{judgeTable}
 use Rattle.tree.specs.Replace.{part}
+use Rattle.tree.proofs.Handed.{or-zero}
 use Rattle.update.specs.declared.Record.{Record}
 use Rattle.update.specs.Records.{isOpen, beyond, shut, emptyRecord}
 use Rattle.update.specs.Memories.{Memory, nodesOf}
@@ -73,10 +74,6 @@ unfolding emptyRecord shut
 none-held = refl
 
 -- ---- the numbers
-
-or-zero : (n : ℕ) → orElse n 0 ≡ n
-or-zero zero = refl
-or-zero (suc n) = refl
 
 module _ (t : List ℕ) {r : Record} {m : Memory} (i : Idle r m) (table : judgeTable t ≡ 0) where
   pub load-number : (ns owns : List ℕ) → LoadNumber t ns owns (loadRefusal t m r ns owns)

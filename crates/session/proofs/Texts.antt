@@ -1,16 +1,16 @@
 -- What an update and a dump print is determined: no second text fits. Assumes nothing.
-use mathlib.Core.Path.{_≡_, refl, sym, ap, _∙_, subst, fun-ext}
-use mathlib.Core.Bool.{Bool, true, false, cond}
-use mathlib.Core.Logic.{_↔_, ⊎-elim}
+use mathlib.Core.Path.{_≡_, sym, ap, _∙_, subst, fun-ext}
+use mathlib.Core.Bool.{Bool, true, cond}
+use mathlib.Core.Logic.{_↔_}
 use mathlib.Core.List.{List, map}
-use Prim.Native.Nat.{ℕ, zero, suc, _+_, _-_, _*_, _≤_, _<_}
+use Prim.Native.Nat.{ℕ, suc, _*_, _≤_, _<_}
 use native.Mathlib.Nat.{le-refl}
 use native.Mathlib.Omega.{arith}
 use lib.ListN.{length}
+use Rattle.circles.proofs.Lists.{bool-same}
 use Rattle.climb.specs.System.{Assignment, System, graphOf}
-use Rattle.climb.specs.Circuit.{sumTo, circleAt}
-use Rattle.climb.proofs.Lists.{le-or-lt}
-use Rattle.climb.proofs.Sums.{sum-mono}
+use Rattle.climb.specs.Circuit.{circleAt}
+use Rattle.climb.proofs.Sums.{sum-same, turns-behind, one-turn}
 use Rattle.climb.proofs.Rounds.{takes-unique}
 use Rattle.wire.specs.Instances.{system}
 use Rattle.demands.specs.Work.{Due, overDue, Climbing, RoundTurn}
@@ -22,33 +22,12 @@ use Rattle.session.specs.Lines.{UpdateLines, then-round, then-done, Upda
 
 -- ---- turns
 
-sum-same : (f g : ℕ → ℕ) (n : ℕ) → ((i : ℕ) → i < n → f i ≡ g i) → sumTo f n ≡ sumTo g n
-unfolding sumTo
-sum-same f g zero h = refl
-sum-same f g (suc n) h = rw (h n (le-refl (suc n)), sum-same f g n (λ i k. h i (omega arith)))
-
 -- the sums over due circles look at those alone that are below their number
 due-same : (due : ℕ → Bool) (f g : ℕ → ℕ) (n : ℕ) → ((i : ℕ) → i < n → f i ≡ g i) → overDue due f n ≡ overDue due g n
 due-same due f g n h = sum-same (λ i. cond (due i) (f i) 0) (λ i. cond (due i) (g i) 0) n (λ i k. rw (h i k))
 
-module _ (due : ℕ → Bool) (climb : ℕ → ℕ) where
-  -- all rounds of a due circle come before any of a later one
-  rounds-behind : (i j : ℕ) → due i ≡ true → i < j → overDue due climb i + climb i ≤ overDue due climb j
-  unfolding sumTo
-  rounds-behind i j w l =
-      let e : suc i + (j - suc i) ≡ j = omega arith in
-      let k : overDue due climb (suc i) ≤ overDue due climb j = rw e at (sum-mono (λ i. cond (due i) (climb i) 0) (suc i) (j - suc i)) in
-      rw w at k
-
-  turn-within : {count i k n : ℕ} → RoundTurn count due climb i k n → n < overDue due climb count
-  turn-within {count} {i} f = omega (arith, rounds-behind i count (f .worked) (f .rank))
-
-  one-turn : {count i k j l n : ℕ} → RoundTurn count due climb i k n → RoundTurn count due climb j l n → (i ≡ j) × (k ≡ l)
-  one-turn {i = i} {k} {j} {l} f g = ⊎-elim
-      (λ (a : i ≤ j). ⊎-elim
-      (λ (c : j ≤ i). let e : i ≡ j = omega arith in (e, omega (arith, ap (λ (x : ℕ). overDue due climb x) e)))
-      (λ (c : i < j). absurd (omega (arith, rounds-behind i j (f .worked) c))) (le-or-lt j i))
-      (λ (c : j < i). absurd (omega (arith, rounds-behind j i (g .worked) c))) (le-or-lt i j)
+turn-within : {count i k n : ℕ} {due : ℕ → Bool} {climb : ℕ → ℕ} → RoundTurn count due climb i k n → n < overDue due climb count
+turn-within {count} {i} {due = due} {climb} f = omega (arith, turns-behind due climb i count (f .worked) (f .rank))
 
 -- ---- lines
 
@@ -67,20 +46,16 @@ module _ (R : List (List ℕ)) (due : ℕ → Bool) (climb other : ℕ → ℕ) 
 
   lines-same : {n : ℕ} {a b : List ℕ} → UpdateLines R due climb changed n a → UpdateLines R due other changed n b → a ≡ b
   lines-same {n} (then-round {text = x} i k f p) (then-round {text = y} j l g q) =
-      let e = one-turn due climb f (turn-as g) in
+      let h = turn-as g in
+      let e = one-turn due climb i k j l (suc n) (f .worked) (f .some) (f .few) (f .time) (h .worked) (h .some) (h .few) (h .time) in
       let z : x ≡ y = lines-same p q in
       rw (e .0, e .1, z, same j (g .rank))
-  lines-same {n} (then-round i k f p) (then-done e) = absurd (omega (arith, turn-within due climb f, sums (length R) (le-refl (length R))))
-  lines-same {n} (then-done e) (then-round j l g q) = absurd (omega (arith, turn-within due climb (turn-as g)))
+  lines-same {n} (then-round i k f p) (then-done e) = absurd (omega (arith, turn-within f, sums (length R) (le-refl (length R))))
+  lines-same {n} (then-done e) (then-round j l g q) = absurd (omega (arith, turn-within (turn-as g)))
   lines-same {n} (then-done e) (then-done f) =
       rw (due-same due (λ i. length (circleAt R i) * climb i) (λ i. length (circleAt R i) * other i) (length R) (λ i l. ap (λ (k : ℕ). length (circleAt R i) * k) (same i l)))
 
 -- ---- an update
-
-bool-same : (a b : Bool) → (a ≡ true → b ≡ true) → (b ≡ true → a ≡ true) → a ≡ b
-bool-same true b f g = sym (f refl)
-bool-same false true f g = g refl
-bool-same false false f g = refl
 
 module _ (S : System) (fresh survives : ℕ → Bool) (before : Assignment) where
   -- an update's text over the least sets v and the circles R
