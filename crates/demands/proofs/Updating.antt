@@ -22,7 +22,7 @@ use Rattle.climb.proofs.Systems.{least-unique, gains-inside, lawful-inside, wei
 use Rattle.climb.proofs.Stages.{stage-out}
 use Rattle.climb.proofs.Rounds.{climbs, lone-once, agree-alike}
 use Rattle.climb.proofs.Restriction.{climbs-again}
-use Rattle.climb.proofs.Sums.{sum-le}
+use Rattle.climb.proofs.Sums.{sum-same}
 use Rattle.climb.proofs.Finishing.{agree-final}
 use Rattle.wire.specs.Instances.{declared, system}
 use Rattle.update.specs.declared.Record.{Record}
@@ -45,9 +45,6 @@ use Rattle.demands.proofs.Circles.{first-member}
 use Rattle.demands.proofs.Due.{due-exactly}
 use Rattle.demands.proofs.Rows.{Amid, amid, ended, step-there, run-there}
 use Rattle.demands.proofs.Histories.{finished-settled}
-
-sum-same : (f g : ℕ → ℕ) (n : ℕ) → ((i : ℕ) → i < n → f i ≡ g i) → sumTo f n ≡ sumTo g n
-sum-same f g n h = omega (arith, sum-le f g n (λ i l. omega (arith, h i l)), sum-le g f n (λ i l. omega (arith, h i l)))
 
 -- done's numbers, one by one
 pub numbers : {c e x c′ e′ x′ : ℕ} → finished c e x ≡ finished c′ e′ x′ → Counts c e x c′ e′ x′

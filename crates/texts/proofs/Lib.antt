@@ -4,6 +4,7 @@ pub mod Writing
 pub mod Taking
 pub mod Sofar
 pub mod Readings
+pub mod Passing
 pub mod Unique
 pub mod Kept
 pub mod Tables
