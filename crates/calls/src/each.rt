@@ -7,26 +7,50 @@ use crate::tell::tell_reading;
 use crate::tell::tell_record;
 use crate::tell::tell_run;
 use crate::tell::tell_verdict;
+use engine::Begun;
 use steps::Advanced;
 use update::Record;
+
+fn tell_begun(name: &[u8], begun: Begun) -> Record {
+    let verdict = begun.verdict;
+    let next = begun.record;
+    say(name);
+    tell_verdict(verdict);
+    tell_record(next);
+    next
+}
 
 pub fn load(
     table: &[u64; 2657],
     record: Record,
     nodes: &[u8],
     owns: &[u64],
-    held: &mut [u8],
-    held_owns: &mut [u64],
-    sets: &mut [u64],
-    before: &mut [u64],
+    held: &mut [u8; 512],
+    held_owns: &mut [u64; 512],
+    sets: &mut [u64; 4096],
+    before: &mut [u64; 4096],
 ) -> Record {
     let begun = engine::load(table, record, nodes, owns, held, held_owns, sets, before);
-    let verdict = begun.verdict;
-    let next = begun.record;
-    say(b"load: ");
-    tell_verdict(verdict);
-    tell_record(next);
-    next
+    tell_begun(b"load: ", begun)
+}
+
+// A load with a set too few lent.
+pub fn load_short(
+    table: &[u64; 2657],
+    record: Record,
+    nodes: &[u8],
+    owns: &[u64],
+    held: &mut [u8; 512],
+    held_owns: &mut [u64; 512],
+    sets: &mut [u64],
+    before: &mut [u64; 4096],
+) -> Record {
+    if sets.len() == 0 {
+        return record;
+    }
+    let few = &mut sets[1..];
+    let begun = engine::load(table, record, nodes, owns, held, held_owns, few, before);
+    tell_begun(b"load: ", begun)
 }
 
 pub fn replace(
@@ -35,10 +59,10 @@ pub fn replace(
     point: usize,
     part: &[u8],
     owns: &[u64],
-    held: &mut [u8],
-    held_owns: &mut [u64],
-    sets: &mut [u64],
-    before: &mut [u64],
+    held: &mut [u8; 512],
+    held_owns: &mut [u64; 512],
+    sets: &mut [u64; 4096],
+    before: &mut [u64; 4096],
 ) -> Record {
     let begun = engine::replace(
         table,
@@ -51,22 +75,17 @@ pub fn replace(
         sets,
         before,
     );
-    let verdict = begun.verdict;
-    let next = begun.record;
     say_count(b"replace ", point as u64);
-    say(b": ");
-    tell_verdict(verdict);
-    tell_record(next);
-    next
+    tell_begun(b": ", begun)
 }
 
 pub fn read(
     table: &[u64; 2657],
     record: Record,
-    held: &[u8],
-    held_owns: &[u64],
-    sets: &[u64],
-    before: &[u64],
+    held: &[u8; 512],
+    held_owns: &[u64; 512],
+    sets: &[u64; 4096],
+    before: &[u64; 4096],
     instance: usize,
 ) {
     let reading = engine::read(table, record, held, held_owns, sets, before, instance);
@@ -78,10 +97,10 @@ pub fn read(
 pub fn step<'a>(
     table: &'a [u64; 2657],
     record: Record,
-    held: &'a [u8],
-    held_owns: &'a [u64],
-    sets: &mut [u64],
-    before: &'a [u64],
+    held: &'a [u8; 512],
+    held_owns: &'a [u64; 512],
+    sets: &mut [u64; 4096],
+    before: &'a [u64; 4096],
 ) -> Record {
     let stepped = engine::step(table, record, held, held_owns, sets, before);
     let answer = stepped.answer;
@@ -105,10 +124,10 @@ fn tell_advanced(name: &[u8], budget: u64, advanced: Advanced) -> Record {
 pub fn run<'a>(
     table: &'a [u64; 2657],
     record: Record,
-    held: &'a [u8],
-    held_owns: &'a [u64],
-    sets: &mut [u64],
-    before: &'a [u64],
+    held: &'a [u8; 512],
+    held_owns: &'a [u64; 512],
+    sets: &mut [u64; 4096],
+    before: &'a [u64; 4096],
     budget: u64,
 ) -> Record {
     let advanced = run_lent(table, record, held, held_owns, sets, before, budget);
@@ -118,10 +137,10 @@ pub fn run<'a>(
 pub fn run_record<'a>(
     table: &'a [u64; 2657],
     record: Record,
-    held: &'a [u8],
-    held_owns: &'a [u64],
-    sets: &mut [u64],
-    before: &'a [u64],
+    held: &'a [u8; 512],
+    held_owns: &'a [u64; 512],
+    sets: &mut [u64; 4096],
+    before: &'a [u64; 4096],
     budget: u64,
 ) -> Record {
     let advanced = engine::run_record(table, record, held, held_owns, sets, before, budget);

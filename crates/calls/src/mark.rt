@@ -53,12 +53,13 @@ pub fn tell_memory(
     held_owns: &[u64; 512],
     sets: &[u64; 4096],
     before: &[u64; 4096],
-) {
+) -> u64 {
     let mark = mark_of(held, held_owns, sets, before);
-    say_set(b"memory: ", mark);
+    say_set(b"memory ", mark);
     if mark == was {
         say(b", as it was\n");
     } else {
         say(b", changed\n");
     }
+    mark
 }

@@ -29,10 +29,10 @@ fn tallied(tally: Tally, reading: Reading) -> Tally {
 fn read_all(
     table: &[u64; 2657],
     record: Record,
-    held: &[u8],
-    held_owns: &[u64],
-    sets: &[u64],
-    before: &[u64],
+    held: &[u8; 512],
+    held_owns: &[u64; 512],
+    sets: &[u64; 4096],
+    before: &[u64; 4096],
 ) -> Tally {
     let mut tally = Tally {
         count: 0,
@@ -51,10 +51,10 @@ fn read_all(
 pub fn read_day(
     table: &[u64; 2657],
     record: Record,
-    held: &[u8],
-    held_owns: &[u64],
-    sets: &[u64],
-    before: &[u64],
+    held: &[u8; 512],
+    held_owns: &[u64; 512],
+    sets: &[u64; 4096],
+    before: &[u64; 4096],
 ) {
     read(table, record, held, held_owns, sets, before, 0);
     read(table, record, held, held_owns, sets, before, 8);

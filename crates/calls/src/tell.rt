@@ -13,6 +13,10 @@ fn wide(x: u8) -> u64 {
     x as u64
 }
 
+fn bit(x: bool) -> u64 {
+    if x { 1 } else { 0 }
+}
+
 pub fn say(text: &[u8]) {
     io::write_all(STDOUT_FILENO, text);
 }
@@ -25,6 +29,10 @@ pub fn say_count(text: &[u8], n: u64) {
 pub fn say_set(text: &[u8], set: u64) {
     say(text);
     io::print_hex(STDOUT_FILENO, set, 16);
+}
+
+fn say_next(n: u64) {
+    say_count(b" ", n);
 }
 
 fn tell_refusal(refusal: Refusal) {
@@ -44,6 +52,15 @@ pub fn tell_verdict(verdict: Verdict) {
     }
 }
 
+fn tell_round(least: usize, round: u64, size: usize, closed: bool) {
+    say_count(b"round ", round);
+    say_count(b" of circle ", least as u64);
+    say_count(b", sets ", size as u64);
+    if closed {
+        say(b", closed");
+    }
+}
+
 pub fn tell_answer(answer: Answer) {
     match answer {
         Answer::Round {
@@ -51,14 +68,7 @@ pub fn tell_answer(answer: Answer) {
             round,
             size,
             closed,
-        } => {
-            say_count(b"round ", round);
-            say_count(b" of circle ", least as u64);
-            say_count(b", sets ", size as u64);
-            if closed {
-                say(b", closed");
-            }
-        }
+        } => tell_round(least, round, size, closed),
         Answer::Done {
             circles,
             evaluations,
@@ -95,29 +105,26 @@ pub fn tell_reading(reading: Reading) {
     say(b"\n");
 }
 
-fn tell_open(open: Open) {
+fn open_number(open: Open) -> u64 {
     match open {
-        Open::Nothing => say(b", nothing open"),
-        Open::Load => say(b", load open"),
-        Open::Replacement => say(b", replacement open"),
+        Open::Nothing => 0,
+        Open::Load => 1,
+        Open::Replacement => 2,
     }
 }
 
-// The record behind an answer ends the line.
+// The record's fields in their order, as a line's end.
 pub fn tell_record(record: Record) {
-    if record.held {
-        say(b"; tree held");
-    } else {
-        say(b"; no tree");
-    }
     let open = record.open;
-    tell_open(open);
-    say_count(b", nodes ", record.nodes as u64);
-    say_count(b", point ", record.point as u64);
-    say_count(b", part ", record.part as u64);
-    say_count(b", rank ", record.rank as u64);
-    say_count(b", round ", record.round);
-    say_count(b", circles ", record.circles);
-    say_count(b", evaluations ", record.evaluations);
+    say(b" |");
+    say_next(bit(record.held));
+    say_next(open_number(open));
+    say_next(record.nodes as u64);
+    say_next(record.point as u64);
+    say_next(record.part as u64);
+    say_next(record.rank as u64);
+    say_next(record.round);
+    say_next(record.circles);
+    say_next(record.evaluations);
     say(b"\n");
 }
