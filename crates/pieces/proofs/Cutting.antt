@@ -1,10 +1,10 @@
--- Pieces in a row print what the whole text does. Assumes nothing.
+-- Calls in a row print what is owed, and end; pieces in a row print what the whole text does. Assumes nothing.
 use mathlib.Core.Path.{_≡_, refl, ap, sym, _∙_}
 use mathlib.Core.Bool.{Bool, true, false}
 use mathlib.Core.List.{List, [], _∷_, _++_, append-nil, append-assoc}
-use Prim.Native.Nat.{ℕ, zero, suc, _+_, _≤_, _<_}
+use Prim.Native.Nat.{ℕ, zero, suc, _+_, _*_, _≤_, _<_}
 use native.Mathlib.Omega.{arith}
-use lib.ListN.{length, take, drop, length-take, replicate, drop-of-length-le}
+use lib.ListN.{length, take, drop, length-take, length-append, replicate, drop-of-length-le}
 use Rattle.session.specs.Session.{session, ownMemory}
 use Rattle.owing.specs.Owed.{owed}
 use Rattle.owing.specs.Laws.{listens, endText}
@@ -14,13 +14,13 @@ use Rattle.owing.proofs.Ending.{end-pays, all-owed}
 use Rattle.desk.specs.Desk.{Desk, Fits, tableOf, lineOf, owedFor}
 use Rattle.desk.specs.Ending.{lastText}
 use Rattle.pieces.specs.Feeding.{Feeds}
-use Rattle.pieces.specs.Laws.{Starts, Piece, last, more, Pieces, ends, next, joined, HoweverCut}
+use Rattle.pieces.specs.Laws.{Starts, Calls, none, more, Piece, last, Pieces, ends, next, CallsEnd, joined, HoweverCut}
 
 -- a desk between two pieces
-record Rests (d : Desk) : Type 0 where
-  out : List ℕ
-  fits : Fits d out
-  idle : listens (d .state .mode) ≡ true
+pub record Rests (d : Desk) : Type 0 where
+  pub out : List ℕ
+  pub fits : Fits d out
+  pub idle : listens (d .state .mode) ≡ true
 
 -- behind the end nothing is owed, whatever text follows
 module _ (d : Desk) where
@@ -37,16 +37,39 @@ module _ (d : Desk) where
   used-up piece place h (Working turns) e u = rw (drop-of-length-le piece (h (λ o. let z : _≡_ {A = ℕ} 0 1 = cc in omega arith)))
   used-up piece place h Stopped e u = owes-none (drop place piece ++ u) e ∙ sym (owes-none u e)
 
--- one piece
-piece-rests : {d d′ : Desk} {piece text : List ℕ} {from : ℕ} → Piece d piece from text d′ → Rests d′
-piece-rests (last {out′ = out′} f) = record { out = out′; fits = f .fits; idle = f .idle refl }
-piece-rests (more f p) = piece-rests p
+module _ {Lends : List ℕ → List ℕ → Type 0} where
+  -- ---- calls in a row
 
-piece-pays : {d d′ : Desk} {piece text : List ℕ} {from : ℕ} → Piece d piece from text d′ → (u : List ℕ) → owedFor d (drop from piece ++ u) ≡ text ++ owedFor d′ u
-piece-pays {d′ = d′} {piece = piece} (last {place = place} f) u = f .paid u ∙ ap (λ (l : List ℕ). f .text ++ l) (used-up d′ piece place (f .used refl) (d′ .state .mode) refl u)
-piece-pays {d′ = d″} (more {d′ = d′} {text = text} f p) u = f .paid u ∙ ap (λ (l : List ℕ). f .text ++ l) (piece-pays p u) ∙ sym (append-assoc (f .text) text (owedFor d″ u))
+  module _ {d : Desk} {out piece : List ℕ} {from : ℕ} where
+    pub calls-pay : {n : ℕ} {text : List ℕ} {d′ : Desk} {out′ : List ℕ} {place : ℕ} → Calls Lends d out piece from n text d′ out′ place
+        → (u : List ℕ) → owedFor d (drop from piece ++ u) ≡ text ++ owedFor d′ (drop place piece ++ u)
+    calls-pay none u = refl
+    calls-pay {d′ = d′} {place = place} (more {text = text} c l f) u =
+        calls-pay c u ∙ ap (λ (s : List ℕ). text ++ s) (f .paid u) ∙ sym (append-assoc text (f .text) (owedFor d′ (drop place piece ++ u)))
 
--- the end of the input
+    calls-long : {n : ℕ} {text : List ℕ} {d′ : Desk} {out′ : List ℕ} {place : ℕ} → Calls Lends d out piece from n text d′ out′ place → 36865 * n ≤ length text
+    calls-long none = omega arith
+    calls-long (more {n = n} {text = text} c l f) = omega (arith, calls-long c, f .full refl, f .length-of, length-append text (f .text))
+
+    -- ---- one piece
+
+    pub piece-rests : {n : ℕ} {text : List ℕ} {d′ : Desk} {out′ : List ℕ} → Piece Lends d out piece from n text d′ out′ → Rests d′
+    piece-rests {out′ = out′} (last c l f) = record { out = out′; fits = f .fits; idle = f .idle refl }
+
+    pub piece-pays : {n : ℕ} {text : List ℕ} {d′ : Desk} {out′ : List ℕ} → Piece Lends d out piece from n text d′ out′
+        → (u : List ℕ) → owedFor d (drop from piece ++ u) ≡ text ++ owedFor d′ u
+    piece-pays {d′ = d′} (last {text = text} {place = place} c l f) u =
+        calls-pay c u
+        ∙ ap (λ (s : List ℕ). text ++ s) (f .paid u ∙ ap (λ (s : List ℕ). f .text ++ s) (used-up d′ piece place (f .used refl) (d′ .state .mode) refl u))
+        ∙ sym (append-assoc text (f .text) (owedFor d′ u))
+
+pub calls-end : CallsEnd
+calls-end Lends d out piece from n text d′ out′ place c =
+    let e : owedFor d (drop from piece) ≡ text ++ owedFor d′ (drop place piece ++ []) = ap (owedFor d) (sym (append-nil (drop from piece))) ∙ calls-pay c [] in
+    omega (arith, calls-long c, ap length e, length-append text (owedFor d′ (drop place piece ++ [])))
+
+-- ---- the end of the input
+
 end-owed : (d : Desk) → Rests d → owedFor d [] ≡ lastText (d .state)
 end-owed d r =
     let n : length (lineOf d) ≡ d .state .begun = length-take (d .state .begun) (d .window) ∙ omega (arith, r .fits .begun, r .fits .wide .window-room) in
@@ -54,13 +77,18 @@ end-owed d r =
     (end-pays (d .state .mode) (tableOf d) (d .parts) (d .partOwns) (d .memory) (d .state .«record») (d .state .line) (lineOf d) (r .idle) (r .fits .sound) (r .fits .line)
     ∙ ap (λ (k : ℕ). endText (d .state .mode) k (d .state .line)) n)
 
-pieces-pay : {d : Desk} {pieces : List (List ℕ)} {text : List ℕ} → Rests d → Pieces d pieces text → owedFor d (joined pieces) ≡ text
+-- ---- pieces in a row
+
+pieces-pay : {Lends : List ℕ → List ℕ → Type 0} {d : Desk} {out : List ℕ} {pieces : List (List ℕ)} {text : List ℕ} → Rests d → Pieces Lends d out pieces text
+    → owedFor d (joined pieces) ≡ text
 unfolding joined
-pieces-pay {d} r ends = end-owed d r
+pieces-pay {d = d} r ends = end-owed d r
 pieces-pay r (next {text = text} {pieces = pieces} p q) = piece-pays p (joined pieces) ∙ ap (λ (l : List ℕ). text ++ l) (pieces-pay (piece-rests p) q)
 
+pub starts-rests : {d : Desk} {out : List ℕ} → Starts d out → Rests d
+starts-rests {out = out} s = record { out = out; fits = s .fits; idle = rw (s .mode) }
+
 pub however-cut : HoweverCut
-however-cut d out pieces text s p =
-    let idle : listens (d .state .mode) ≡ true = rw (s .mode) in
+however-cut Lends d out pieces text s p =
     let first : owedFor d (joined pieces) ≡ session (joined pieces) = rw (s .mode, s .line, s .empty, s .words, s .memory) (all-owed (d .parts) (d .partOwns) (d .state .«record») (joined pieces)) in
-    sym (pieces-pay (record { out = out; fits = s .fits; idle = idle }) p) ∙ first
+    sym (pieces-pay (starts-rests s) p) ∙ first
