@@ -14,9 +14,9 @@ use Rattle.owing.specs.Hearing.{Heard, hearing, Spacious}
 use Rattle.owing.specs.declared.Mode.{Mode}
 use Rattle.owing.specs.declared.Mode.the-variants.{Table, Command, Nodes, Working, Stopped}
 use Rattle.telling.specs.Telling.{Worked, stepsWithin}
-use Rattle.desk.specs.Desk.{Desk, desk, tableOf, Fits}
+use Rattle.desk.specs.Desk.{Desk, desk}
 use Rattle.desk.specs.Ending.{silent}
-use Rattle.desk.specs.Gathering.{Gathers, Gathering}
+use Rattle.desk.specs.Gathering.{Gathers}
 use Rattle.desk.specs.Refusals.{settledNumbers}
 use Rattle.desk.proofs.Bytes.{always-gathers}
 use Rattle.desk.proofs.Refusing.{all-state-gives}

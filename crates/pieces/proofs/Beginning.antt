@@ -1,12 +1,12 @@
 -- A session begins as the program lends it its memory. Assumes nothing.
-use mathlib.Core.Path.{_≡_, refl}
+use mathlib.Core.Path.{refl}
 use Prim.Native.Nat.{ℕ, _≤_}
 use native.Mathlib.Omega.{arith}
 use lib.ListN.{length, replicate, length-replicate}
 use lib.Seq.{take-all}
 use Rattle.session.specs.Session.{ownMemory}
 use Rattle.update.specs.Within.{Roomy}
-use Rattle.pieces.specs.Laws.{firstDesk, firstOut, ProgramStarts}
+use Rattle.pieces.specs.Laws.{firstOut, ProgramStarts}
 
 -- a zeroed array has its places
 room : (n : ℕ) → n ≤ length (replicate {A = ℕ} n 0)

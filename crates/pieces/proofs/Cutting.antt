@@ -1,11 +1,11 @@
 -- Calls in a row print what is owed, and end; pieces in a row print what the whole text does. Assumes nothing.
-use mathlib.Core.Path.{_≡_, refl, ap, sym, _∙_}
+use mathlib.Core.Path.{_≡_, refl, ap, sym, _∙_, subst}
 use mathlib.Core.Bool.{Bool, true, false}
 use mathlib.Core.List.{List, [], _∷_, _++_, append-nil, append-assoc}
 use Prim.Native.Nat.{ℕ, zero, suc, _+_, _*_, _≤_, _<_}
 use native.Mathlib.Omega.{arith}
-use lib.ListN.{length, take, drop, length-take, length-append, replicate, drop-of-length-le}
-use Rattle.session.specs.Session.{session, ownMemory}
+use lib.ListN.{length, drop, length-take, length-append, drop-of-length-le}
+use Rattle.session.specs.Session.{session}
 use Rattle.owing.specs.Owed.{owed}
 use Rattle.owing.specs.Laws.{listens, endText}
 use Rattle.owing.specs.declared.Mode.{Mode}
@@ -14,7 +14,9 @@ use Rattle.owing.proofs.Ending.{end-pays, all-owed}
 use Rattle.desk.specs.Desk.{Desk, Fits, tableOf, lineOf, owedFor}
 use Rattle.desk.specs.Ending.{lastText}
 use Rattle.pieces.specs.Feeding.{Feeds}
-use Rattle.pieces.specs.Laws.{Starts, Calls, none, more, Piece, last, Pieces, ends, next, CallsEnd, joined, HoweverCut}
+use Rattle.pieces.specs.Laws.{Starts, firstDesk, firstOut, Again, Lending, Calls, none, more, Piece, last, Pieces, ends, next, CallsEnd, Ended, PieceEnds, joined, HoweverCut, AlwaysCut, EveryCutting}
+use Rattle.pieces.proofs.Beginning.{program-starts}
+use Rattle.pieces.proofs.Answering.{always-answered}
 
 -- a desk between two pieces
 pub record Rests (d : Desk) : Type 0 where
@@ -53,7 +55,10 @@ module _ {Lends : List ℕ → List ℕ → Type 0} where
 
     -- ---- one piece
 
-    pub piece-rests : {n : ℕ} {text : List ℕ} {d′ : Desk} {out′ : List ℕ} → Piece Lends d out piece from n text d′ out′ → Rests d′
+    piece-fits : {n : ℕ} {text : List ℕ} {d′ : Desk} {out′ : List ℕ} → Piece Lends d out piece from n text d′ out′ → Fits d′ out′
+    piece-fits (last c l f) = f .fits
+
+    piece-rests : {n : ℕ} {text : List ℕ} {d′ : Desk} {out′ : List ℕ} → Piece Lends d out piece from n text d′ out′ → Rests d′
     piece-rests {out′ = out′} (last c l f) = record { out = out′; fits = f .fits; idle = f .idle refl }
 
     pub piece-pays : {n : ℕ} {text : List ℕ} {d′ : Desk} {out′ : List ℕ} → Piece Lends d out piece from n text d′ out′
@@ -67,6 +72,45 @@ pub calls-end : CallsEnd
 calls-end Lends d out piece from n text d′ out′ place c =
     let e : owedFor d (drop from piece) ≡ text ++ owedFor d′ (drop place piece ++ []) = ap (owedFor d) (sym (append-nil (drop from piece))) ∙ calls-pay c [] in
     omega (arith, calls-long c, ap length e, length-append text (owedFor d′ (drop place piece ++ [])))
+
+-- ---- a piece comes to its end
+
+fits-lent : {d : Desk} {out : List ℕ} (o : List ℕ) → Fits d out → 131072 ≤ length o → Fits d o
+fits-lent o f h = record {
+  wide = record { words-room = f .wide .words-room; window-room = f .wide .window-room; parts-room = f .wide .parts-room; owns-room = f .wide .owns-room; room = f .wide .room; out-room = h };
+  begun = f .begun;
+  line = f .line;
+  sound = f .sound;
+}
+
+module _ (Lends : List ℕ → List ℕ → Type 0) (lending : Lending Lends) (d : Desk) (out piece : List ℕ) (from : ℕ) where
+  -- what is owed falls by what a call prints
+  owed-less : {e d′ : Desk} {at place printed : ℕ} {o o′ : List ℕ} → Feeds e piece at o d′ place printed true o′
+      → 36865 + length (owedFor d′ (drop place piece)) ≤ length (owedFor e (drop at piece))
+  owed-less {e} {d′} {at} {place} f =
+      let p : owedFor e (drop at piece) ≡ f .text ++ owedFor d′ (drop place piece) =
+      ap (owedFor e) (sym (append-nil (drop at piece))) ∙ f .paid [] ∙ ap (λ (l : List ℕ). f .text ++ owedFor d′ l) (append-nil (drop place piece)) in
+      omega (arith, ap length p, length-append (f .text) (owedFor d′ (drop place piece)), f .full refl, f .length-of)
+
+  -- calls so far, and the next: the last, or one more
+  module _ {n : ℕ} {text : List ℕ} {e : Desk} {o lent : List ℕ} {at : ℕ} (c : Calls Lends d out piece from n text e o at) (l : Lends o lent) where
+    call-then : (d′ : Desk) (place printed : ℕ) (more : Bool) (o′ : List ℕ) (f : Feeds e piece at lent d′ place printed more o′)
+        → ((t : Feeds e piece at lent d′ place printed true o′) → Calls Lends d out piece from (suc n) (text ++ t .text) d′ o′ place → Ended Lends d out piece from) → Ended Lends d out piece from
+    call-then d′ place printed true o′ f go = go f (more c l f)
+    call-then d′ place printed false o′ f go =
+        record { again = n; text = text ++ f .text; then = d′; left = o′; taken = last c l f; few = calls-end Lends d out piece from n text e o at c }
+
+  ends-from : (k : ℕ) {n : ℕ} {text : List ℕ} (e : Desk) (o : List ℕ) (at : ℕ) → length (owedFor e (drop at piece)) < k → Fits e o → Calls Lends d out piece from n text e o at
+      → Ended Lends d out piece from
+  ends-from zero e o at h f c = absurd (omega arith)
+  ends-from (suc k) e o at h f c =
+      let l = lending o (f .wide .out-room) in
+      let a = always-answered e piece at (l .0) (fits-lent (l .0) f (l .2)) in
+      call-then c (l .1) (a .then) (a .place) (a .printed) (a .more) (a .left) (a .feeds)
+      (λ t next. ends-from k (a .then) (a .left) (a .place) (omega (arith, owed-less t)) (t .fits) next)
+
+pub piece-ends : PieceEnds
+piece-ends Lends lending d out piece from fits = ends-from Lends lending d out piece from (suc (length (owedFor d (drop from piece)))) d out from (omega arith) fits none
 
 -- ---- the end of the input
 
@@ -92,3 +136,27 @@ pub however-cut : HoweverCut
 however-cut Lends d out pieces text s p =
     let first : owedFor d (joined pieces) ≡ session (joined pieces) = rw (s .mode, s .line, s .empty, s .words, s .memory) (all-owed (d .parts) (d .partOwns) (d .state .«record») (joined pieces)) in
     sym (pieces-pay (starts-rests s) p) ∙ first
+
+-- ---- and there is an output
+
+module _ (Lends : List ℕ → List ℕ → Type 0) (lending : Lending Lends) where
+  some-output : (pieces : List (List ℕ)) (d : Desk) (out : List ℕ) → Fits d out → (text : List ℕ) × Pieces Lends d out pieces text
+  some-output [] d out fits = (lastText (d .state), ends)
+  some-output (piece ∷ pieces) d out fits =
+      let p = piece-ends Lends lending d out piece 0 fits in
+      let q = some-output pieces (p .then) (p .left) (piece-fits (p .taken)) in
+      (p .text ++ q .0, next (p .taken) (q .1))
+
+pub always-cut : AlwaysCut
+always-cut Lends lending d out pieces s =
+    let p = some-output Lends lending pieces d out (s .fits) in
+    subst (λ (l : List ℕ). Pieces Lends d out pieces l) (however-cut Lends d out pieces (p .0) s (p .1)) (p .1)
+
+lends-again : Lending Again
+lends-again o h = (o, refl, h)
+
+pub every-cutting : EveryCutting
+every-cutting pieces text = (
+  λ p. however-cut Again firstDesk firstOut pieces text program-starts p,
+  λ (e : text ≡ session (joined pieces)). subst (λ (l : List ℕ). Pieces Again firstDesk firstOut pieces l) (sym e) (always-cut Again lends-again firstDesk firstOut pieces program-starts),
+)

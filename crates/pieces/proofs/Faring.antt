@@ -2,7 +2,7 @@
 use mathlib.Core.Path.{_≡_, refl, ap, sym, _∙_, subst}
 use mathlib.Core.Bool.{Bool, true, false, true≢false}
 use mathlib.Core.List.{List, [], _∷_, _++_, append-nil, append-assoc}
-use Prim.Native.Nat.{ℕ, zero, suc, _+_, _*_, _-_, _≤_, _<_, min}
+use Prim.Native.Nat.{ℕ, suc, _+_, _-_, _≤_, _<_}
 use native.Mathlib.Omega.{arith}
 use native.Mathlib.Nat.{lt-of-not-le}
 use types.Run.{OneOf, miss}
@@ -16,7 +16,7 @@ use Rattle.update.specs.Refusals.{firstRefusal}
 use Rattle.frames.specs.Frames.{frameAt, lineAfter}
 use Rattle.frames.specs.declared.Frame.{Frame}
 use Rattle.session.specs.Session as session
-use Rattle.session.specs.Session.{stepsTold, before, commandsFrom}
+use Rattle.session.specs.Session.{stepsTold, before}
 use Rattle.owing.specs.Owed.{owed, onward, Sound}
 use Rattle.owing.specs.Hearing.{Heard, hearing, Hears, Spacious}
 use Rattle.telling.specs.Telling.{Worked, Rests, ended, full, RoundsPaid, RoundsTold}
@@ -37,7 +37,7 @@ use Rattle.desk.proofs.Refusing.{given-wide, all-state-gives}
 use Rattle.pieces.proofs.Bounds.{Modest, heard-modest}
 use Rattle.pieces.specs.Running as running
 use Rattle.pieces.specs.Running.{Moment, moment, momentOf, afterRounds, Goes, Runs}
-use Rattle.pieces.specs.Faring.{Ready, Sized, Fares, atWork, toDo, Turns}
+use Rattle.pieces.specs.Faring.{Ready, Sized, Fares, atWork, Turns}
 
 -- ---- turns in a row
 
