@@ -83,15 +83,15 @@ fits-lent o f h = record {
   sound = f .sound;
 }
 
-module _ (Lends : List ℕ → List ℕ → Type 0) (lending : Lending Lends) (d : Desk) (out piece : List ℕ) (from : ℕ) where
-  -- what is owed falls by what a call prints
-  owed-less : {e d′ : Desk} {at place printed : ℕ} {o o′ : List ℕ} → Feeds e piece at o d′ place printed true o′
-      → 36865 + length (owedFor d′ (drop place piece)) ≤ length (owedFor e (drop at piece))
-  owed-less {e} {d′} {at} {place} f =
-      let p : owedFor e (drop at piece) ≡ f .text ++ owedFor d′ (drop place piece) =
-      ap (owedFor e) (sym (append-nil (drop at piece))) ∙ f .paid [] ∙ ap (λ (l : List ℕ). f .text ++ owedFor d′ l) (append-nil (drop place piece)) in
-      omega (arith, ap length p, length-append (f .text) (owedFor d′ (drop place piece)), f .full refl, f .length-of)
+-- what is owed falls by what a call prints
+pub owed-less : {e d′ : Desk} {piece : List ℕ} {at place printed : ℕ} {o o′ : List ℕ} → Feeds e piece at o d′ place printed true o′
+    → 36865 + length (owedFor d′ (drop place piece)) ≤ length (owedFor e (drop at piece))
+owed-less {e = e} {d′ = d′} {piece = piece} {at = at} {place = place} f =
+    let p : owedFor e (drop at piece) ≡ f .text ++ owedFor d′ (drop place piece) =
+    ap (owedFor e) (sym (append-nil (drop at piece))) ∙ f .paid [] ∙ ap (λ (l : List ℕ). f .text ++ owedFor d′ l) (append-nil (drop place piece)) in
+    omega (arith, ap length p, length-append (f .text) (owedFor d′ (drop place piece)), f .full refl, f .length-of)
 
+module _ (Lends : List ℕ → List ℕ → Type 0) (lending : Lending Lends) (d : Desk) (out piece : List ℕ) (from : ℕ) where
   -- calls so far, and the next: the last, or one more
   module _ {n : ℕ} {text : List ℕ} {e : Desk} {o lent : List ℕ} {at : ℕ} (c : Calls Lends d out piece from n text e o at) (l : Lends o lent) where
     call-then : (d′ : Desk) (place printed : ℕ) (more : Bool) (o′ : List ℕ) (f : Feeds e piece at lent d′ place printed more o′)
