@@ -1,6 +1,6 @@
 -- Bytes of a piece, one by one behind those of a begun line: what stands in the window then, and that some byte or the piece's end decides. Assumes nothing.
 use mathlib.Core.Path.{_≡_, refl, ap, sym, _∙_}
-use mathlib.Core.Bool.{Bool, true, false}
+use mathlib.Core.Bool.{true, false}
 use mathlib.Core.List.{List, [], _∷_, _++_, append-assoc, append-nil}
 use mathlib.Core.Logic.{⊎-elim}
 use Prim.Native.Nat.{ℕ, zero, suc, _+_, _-_, _≤_, _<_}
@@ -10,7 +10,7 @@ use native.Mathlib.Decide.{ℕ-discrete}
 use lib.ListN.{length, getD, set, take, drop, length-set, length-drop}
 use lib.Seq.{length-take-le, take-suc, take-suc-set, drop-set-lt, drop-drop, getD-drop, getD-take, getD-set-same, getD-set-other}
 use Rattle.lines.proofs.Values.{lt-or-ge}
-use Rattle.owing.specs.Owed.{Begun, Whole}
+use Rattle.owing.specs.Owed.{Begun}
 use Rattle.desk.specs.Gathering.{Gathers, Gathering, AlwaysGathers}
 
 -- no byte of the first n is LF

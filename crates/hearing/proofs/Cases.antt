@@ -19,7 +19,7 @@ use Rattle.texts.specs.Read.{wordsAfter, takenAt}
 use Rattle.frames.proofs.Expected as X
 use Rattle.frames.proofs.Frame as F
 use Rattle.session.specs.Session.{dumpTold}
-use Rattle.owing.specs.Hearing.{Heard, stopped, strange, waiting, called, ordered, commanded, modeOf, tabled, keptAt, noded, hearing}
+use Rattle.owing.specs.Hearing.{stopped, strange, waiting, called, ordered, commanded, modeOf, tabled, keptAt, noded, hearing}
 use Rattle.owing.specs.declared.Order.{Order}
 use Rattle.owing.specs.declared.Order.the-variants as order
 use Rattle.owing.specs.declared.Mode.{Mode}

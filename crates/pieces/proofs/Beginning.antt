@@ -12,7 +12,7 @@ use Rattle.pieces.specs.Laws.{firstOut, ProgramStarts}
 room : (n : ℕ) → n ≤ length (replicate {A = ℕ} n 0)
 room n = omega (arith, length-replicate {A = ℕ} n 0)
 
-pub own-roomy : Roomy ownMemory
+own-roomy : Roomy ownMemory
 unfolding ownMemory
 own-roomy = record { productions = room 512; owns = room 512; sets = room 4096; before = room 4096 }
 

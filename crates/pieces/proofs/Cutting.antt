@@ -19,10 +19,10 @@ use Rattle.pieces.proofs.Beginning.{program-starts}
 use Rattle.pieces.proofs.Answering.{always-answered}
 
 -- a desk between two pieces
-pub record Rests (d : Desk) : Type 0 where
-  pub out : List ℕ
-  pub fits : Fits d out
-  pub idle : listens (d .state .mode) ≡ true
+record Rests (d : Desk) : Type 0 where
+  out : List ℕ
+  fits : Fits d out
+  idle : listens (d .state .mode) ≡ true
 
 -- behind the end nothing is owed, whatever text follows
 module _ (d : Desk) where
@@ -43,7 +43,7 @@ module _ {Lends : List ℕ → List ℕ → Type 0} where
   -- ---- calls in a row
 
   module _ {d : Desk} {out piece : List ℕ} {from : ℕ} where
-    pub calls-pay : {n : ℕ} {text : List ℕ} {d′ : Desk} {out′ : List ℕ} {place : ℕ} → Calls Lends d out piece from n text d′ out′ place
+    calls-pay : {n : ℕ} {text : List ℕ} {d′ : Desk} {out′ : List ℕ} {place : ℕ} → Calls Lends d out piece from n text d′ out′ place
         → (u : List ℕ) → owedFor d (drop from piece ++ u) ≡ text ++ owedFor d′ (drop place piece ++ u)
     calls-pay none u = refl
     calls-pay {d′ = d′} {place = place} (more {text = text} c l f) u =
@@ -61,7 +61,7 @@ module _ {Lends : List ℕ → List ℕ → Type 0} where
     piece-rests : {n : ℕ} {text : List ℕ} {d′ : Desk} {out′ : List ℕ} → Piece Lends d out piece from n text d′ out′ → Rests d′
     piece-rests {out′ = out′} (last c l f) = record { out = out′; fits = f .fits; idle = f .idle refl }
 
-    pub piece-pays : {n : ℕ} {text : List ℕ} {d′ : Desk} {out′ : List ℕ} → Piece Lends d out piece from n text d′ out′
+    piece-pays : {n : ℕ} {text : List ℕ} {d′ : Desk} {out′ : List ℕ} → Piece Lends d out piece from n text d′ out′
         → (u : List ℕ) → owedFor d (drop from piece ++ u) ≡ text ++ owedFor d′ u
     piece-pays {d′ = d′} (last {text = text} {place = place} c l f) u =
         calls-pay c u
@@ -129,7 +129,7 @@ unfolding joined
 pieces-pay {d = d} r ends = end-owed d r
 pieces-pay r (next {text = text} {pieces = pieces} p q) = piece-pays p (joined pieces) ∙ ap (λ (l : List ℕ). text ++ l) (pieces-pay (piece-rests p) q)
 
-pub starts-rests : {d : Desk} {out : List ℕ} → Starts d out → Rests d
+starts-rests : {d : Desk} {out : List ℕ} → Starts d out → Rests d
 starts-rests {out = out} s = record { out = out; fits = s .fits; idle = rw (s .mode) }
 
 pub however-cut : HoweverCut

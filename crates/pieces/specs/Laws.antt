@@ -7,7 +7,6 @@ use mathlib.Core.List.{List, [], _∷_, _++_}
 use Prim.Native.Nat.{ℕ, suc, _*_, _≤_}
 use lib.ListN.{length, drop, replicate}
 use Rattle.session.specs.Session.{session, ownMemory}
-use Rattle.owing.specs.declared.Mode.{Mode}
 use Rattle.owing.specs.declared.Mode.the-variants.{Table}
 use Rattle.frames.specs.declared.Expected.the-variants.{AtHeader}
 use Rattle.desk.specs.Desk.{Desk, desk, firstState, Fits, tableOf, lineOf, owedFor}

@@ -85,12 +85,12 @@ module _ (t : List ℕ) (m : Memory) (r : Record) (g : Going t m r) where
   holding-next : Holding t (withSets m (made .sets)) (made .next)
   holding-next = record { ground = ground-next; tree = λ h. tree-next }
 
-pub going-holds : {t : List ℕ} {m : Memory} {r : Record} → Going t m r → Holding t m r
+going-holds : {t : List ℕ} {m : Memory} {r : Record} → Going t m r → Holding t m r
 going-holds g = record { ground = g .ground; tree = λ h. g .tree }
 
 -- ---- texts behind each other
 
-pub before-before : (x y : List ℕ) (told : session.Told) → before x (before y told) ≡ before (x ++ y) told
+before-before : (x y : List ℕ) (told : session.Told) → before x (before y told) ≡ before (x ++ y) told
 before-before x y told j = record { text = sym (append-assoc x y (told .text)) j; next = told .next; memory = told .memory }
 
 -- ---- the steps in a row

@@ -1,6 +1,5 @@
 -- The bytes that are gathered wait, or make a line that is heard. Assumes nothing.
 use Rattle.pieces.proofs.Faring.{sound-here, reaches, line-waits, line-heard}
-use Rattle.update.specs.Memories.{Memory}
 use Rattle.judging.specs.Lent.{lent}
 use borrow.Author.Tests.{not-true, not-false}
 use borrow.Author.Needs.{needs}

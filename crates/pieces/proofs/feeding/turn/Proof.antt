@@ -3,7 +3,6 @@ use Rattle.pieces.proofs.Faring.{not-working, not-silent, sound-here, r
 use Rattle.desk.proofs.Deciding.{tested-not}
 use Rattle.judging.specs.Lent.{lent}
 use native.Mathlib.Omega.{arith}
-use mathlib.Core.Path.{refl}
 use borrow.Author.Needs.{needs}
 use Rattle.pieces.proofs.feeding.turn.Statement.{statement}
 use Rattle.pieces.proofs.feeding.turn.Tie as tie
