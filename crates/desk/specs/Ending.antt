@@ -1,4 +1,5 @@
 -- The end of the input: what is printed then, by what is waited for. Assumes nothing.
+use mathlib.Core.Path.{_≡_}
 use mathlib.Core.Bool.{Bool, true, false, cond}
 use mathlib.Core.List.{List}
 use Prim.Native.Nat.{ℕ}
@@ -21,6 +22,10 @@ finished s out = cond (ltb (length out) 13) (NotWritten why.Buffer) (Length (len
 
 unfoldable pub finishedOut : State → List ℕ → List ℕ
 finishedOut s out = cond (ltb (length out) 13) out (sets out 0 (lastText s))
+
+-- what `finish` says: the answer, and what is printed then
+abbrev pub FinishSays : State → List ℕ → Written → List ℕ → Type 0
+FinishSays s out a out′ = (a ≡ finished s out) × (out′ ≡ finishedOut s out)
 
 -- text that ends between two lines ends "inside a table or command"
 abbrev pub inside : Mode → Bool

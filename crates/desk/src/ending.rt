@@ -7,7 +7,7 @@ use refusal::Refusal;
 ghost use mathlib.Core.Path.{_≡_};
 ghost use Rattle.owing.specs.declared.Mode.the-variants.{Stopped};
 ghost use Rattle.desk.specs.Desk.{Tests};
-ghost use Rattle.desk.specs.Ending.{finished, finishedOut, inside, silent};
+ghost use Rattle.desk.specs.Ending.{FinishSays, inside, silent};
 
 pub fn is_stopped(mode: Mode) -> bool
     ensures { λ r. ⌜ Tests r (mode ≡ Stopped) ⌝ }
@@ -56,7 +56,7 @@ fn is_silent(mode: Mode) -> bool
 
 // The end of the input: 13 inside a line, 14 inside the table or a command.
 pub fn finish(state: State, out: &mut [u8]) -> Written
-    ensures { λ r. ⌜ (r ≡ finished state (now (out .entry))) × (now (out .exit) ≡ finishedOut state (now (out .entry))) ⌝ }
+    ensures { λ r. ⌜ FinishSays state (now (out .entry)) r (now (out .exit)) ⌝ }
 {
     if out.len() < 13 {
         return Written::Refused(Refusal::Buffer);

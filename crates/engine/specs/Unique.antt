@@ -13,7 +13,7 @@ use Rattle.sets.specs.Members.{membersOf, countOf}
 use Rattle.sets.specs.Operations.{valueOf}
 use Rattle.table.specs.Equations.{equationAt}
 use Rattle.table.specs.Judge.{judgeTable}
-use Rattle.tree.specs.Refusals.{treeRefusal}
+use Rattle.tree.specs.Refusals.{JudgeTreeSays}
 use Rattle.update.specs.declared.Record.{Record}
 use Rattle.update.specs.declared.Reading.{Reading}
 use Rattle.update.specs.Memories.{Memory}
@@ -33,7 +33,7 @@ pub record AnswersOne : Type 0 where
   pub value : (e : Equation) (own a b : ℕ) → Only (λ (v : ℕ). v ≡ valueOf (e .op) own a b)
   pub judge-table : (t : List ℕ) → Only (λ (a : Verdict). verdictOf a ≡ judgeTable t)
   pub equation-at : (t : List ℕ) (rule : ℕ) → Only (λ (a : Equation). a ≡ equationAt t rule)
-  pub judge-tree : (t ns owns : List ℕ) → Only (λ (a : Verdict). verdictOf a ≡ treeRefusal t ns owns)
+  pub judge-tree : (t ns owns : List ℕ) → Only (λ (a : Verdict). JudgeTreeSays t ns owns a)
   pub empty : Only (λ (a : Record). a ≡ emptyRecord)
 
 -- ---- the engine's calls, of any table, memory and record: answer, record and what is found in the buffers that the call may write

@@ -3,3 +3,4 @@ pub mod Seeking
 pub mod Back
 pub mod Forth
 pub mod Bounds
+pub mod Unique

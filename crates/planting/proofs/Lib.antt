@@ -5,3 +5,4 @@ pub mod Growing
 pub mod Copying
 pub mod Planted
 pub mod Regrown
+pub mod Unique

@@ -2,4 +2,6 @@ pub mod Text
 pub mod Written
 pub mod Planting
 pub mod Growing
+pub mod Calls
 pub mod Laws
+pub mod Unique

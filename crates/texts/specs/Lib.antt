@@ -2,5 +2,6 @@ pub mod Text
 pub mod Putting
 pub mod Read
 pub mod Reading
+pub mod Calls
 pub mod Unique
 pub mod Laws
