@@ -1,5 +1,6 @@
 pub mod Arriving
 pub mod Deciding
+pub mod Finishing
 pub mod Meaning
 pub mod Refusing
 pub mod Walking

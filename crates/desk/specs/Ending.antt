@@ -1,14 +1,17 @@
--- The end of the input: what is printed then, by what is waited for. Assumes nothing.
+-- The end of the input: what is printed then, by what is waited for, and when nothing can be. Assumes nothing.
 use mathlib.Core.Path.{_≡_}
-use mathlib.Core.Bool.{Bool, true, false, cond}
+use mathlib.Core.Bool.{Bool, true, false}
+use mathlib.Core.Logic.{_⊎_, _↔_}
 use mathlib.Core.List.{List}
 use Prim.Native.Nat.{ℕ}
-use lib.Dec.{ltb}
 use lib.ListN.{length}
-use lib.Seq.{sets}
+use Rattle.refusal.specs.declared.Refusal.{Refusal}
 use Rattle.refusal.specs.declared.Refusal.the-variants as why
+use Rattle.update.specs.Refusals.{when}
 use Rattle.frames.specs.declared.Written.{Written}
-use Rattle.frames.specs.declared.Written.the-variants.{Length, Refused as NotWritten}
+use Rattle.frames.specs.declared.Written.the-variants.{Refused as NotWritten}
+use Rattle.planting.specs.Written.{writtenOf, bufferAfter}
+use Rattle.planting.specs.Refused.{Writes}
 use Rattle.owing.specs.Laws.{endText}
 use Rattle.owing.specs.declared.Mode.{Mode}
 use Rattle.owing.specs.declared.Mode.the-variants.{Table, Command, Nodes, Working, Stopped}
@@ -17,11 +20,20 @@ use Rattle.desk.specs.declared.State.{State}
 abbrev pub lastText : State → List ℕ
 lastText s = endText (s .mode) (s .begun) (s .line)
 
+-- an update is at work: more is to be printed before the input can end
+abbrev pub working : Mode → Bool
+working (Table x) = false
+working Command = false
+working (Nodes order count taken command) = false
+working (Working turns) = true
+working Stopped = false
+
+-- 10 while an update is at work, then 15 where the buffer is shorter than what is to be written
 unfoldable pub finished : State → List ℕ → Written
-finished s out = cond (ltb (length out) 13) (NotWritten why.Buffer) (Length (length (lastText s)))
+finished s out = writtenOf (when (working (s .mode)) 10) (length out) (lastText s)
 
 unfoldable pub finishedOut : State → List ℕ → List ℕ
-finishedOut s out = cond (ltb (length out) 13) out (sets out 0 (lastText s))
+finishedOut s out = bufferAfter (when (working (s .mode)) 10) out (lastText s)
 
 -- what `finish` says: the answer, and what is printed then
 abbrev pub FinishSays : State → List ℕ → Written → List ℕ → Type 0
@@ -35,10 +47,18 @@ inside (Nodes order count taken command) = true
 inside (Working turns) = false
 inside Stopped = false
 
--- no line is waited for
-abbrev pub silent : Mode → Bool
-silent (Table x) = false
-silent Command = false
-silent (Nodes order count taken command) = false
-silent (Working turns) = true
-silent Stopped = true
+-- ---- exactly when
+
+-- an update is at work
+abbrev pub AtWork : Mode → Type 0
+AtWork mode = (turns : ℕ) × (mode ≡ Working turns)
+
+-- 10 exactly then, 15 exactly where the buffer is shorter than what is to be written, and its length exactly otherwise
+pub record FinishGives (s : State) (out : List ℕ) (a : Written) (out′ : List ℕ) : Type 0 where
+  pub by10 : (a ≡ NotWritten why.Busy) ↔ AtWork (s .mode)
+  pub writes : Writes (AtWork (s .mode) → ⊥) out (lastText s) a out′
+  pub no-other : (r : Refusal) → a ≡ NotWritten r → (r ≡ why.Busy) ⊎ (r ≡ why.Buffer)
+
+-- every answer that fits what `finish` says is given exactly so
+abbrev pub AllFinishGives : Type 0
+AllFinishGives = (s : State) (out : List ℕ) (a : Written) (out′ : List ℕ) → FinishSays s out a out′ → FinishGives s out a out′

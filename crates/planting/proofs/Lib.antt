@@ -6,3 +6,4 @@ pub mod Copying
 pub mod Planted
 pub mod Regrown
 pub mod Unique
+pub mod Refusing
