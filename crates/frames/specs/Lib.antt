@@ -4,5 +4,6 @@ pub mod Text
 pub mod Walk
 pub mod Moved
 pub mod Calls
+pub mod Exactly
 pub mod Laws
 pub mod Unique

@@ -70,6 +70,10 @@ module _ (s : List ℕ) (place : ℕ) where
   by-line Bad e w = e
   by-line End e w = absurd (omega (arith, end-says s place e, w .some))
 
+-- at a place there is one line
+pub line-one : {s : List ℕ} {place m n : ℕ} → IsLine s place m → IsLine s place n → m ≡ n
+line-one {s} {place} {m} {n} v w = let a = from-line s place m v in let b = from-line s place n w in cc
+
 pub all-lines-exactly : AllLinesExactly
 all-lines-exactly s place = record {
   line = λ n. (to-line s place n, from-line s place n);
