@@ -3,6 +3,7 @@ pub mod Written
 pub mod Planting
 pub mod Growing
 pub mod Calls
+pub mod Writes
 pub mod Refused
 pub mod Laws
 pub mod Unique

@@ -123,6 +123,30 @@ module _ (t ns owns : List ℕ) where
   sound-from : SoundTree t ns owns → treeRefusal t ns owns ≡ 0
   sound-from w = passes (w .table) (w .few) ∙ handed-exactly t ns owns 0 0 .1 (subtree (w .equal) (w .tree))
 
+-- no number above 8 is given
+or-most : (a b n : ℕ) → a ≤ n → b ≤ n → orElse a b ≤ n
+or-most zero b n h k = k
+or-most (suc a) b n h k = h
+
+judges-most : {t ns owns : List ℕ} {s n : ℕ} → Judges t ns owns s n → n ≤ 8
+judges-most (unequal f) = omega arith
+judges-most (number d w) = omega arith
+judges-most (shape d w) = omega arith
+judges-most (subtree d w) = omega arith
+
+size-most : (m : ℕ) → sizeRefusal m ≤ 8
+size-most m = by (ltb 512 m)
+  where
+    by : (b : Bool) → cond b 8 0 ≤ 8
+    by true = omega arith
+    by false = omega arith
+
+pub tree-most : (t ns owns : List ℕ) → treeRefusal t ns owns ≤ 8
+unfolding treeRefusal
+tree-most t ns owns =
+    or-most (judgeTable t) _ 8 (omega (arith, five-numbers t)) (or-most (sizeRefusal (length ns)) _ 8 (size-most (length ns))
+    (or-most (judgeTree t ns owns 0) 0 8 (judges-most (handed-exactly t ns owns 0 (judgeTree t ns owns 0) .0 refl)) (omega arith)))
+
 pub all-trees-exactly : AllTreesExactly
 all-trees-exactly t ns owns = record {
   refused = λ r. (λ e. refused-to t ns owns r (sym e), λ w. sym (refused-from t ns owns w));
