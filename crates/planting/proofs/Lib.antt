@@ -7,3 +7,5 @@ pub mod Planted
 pub mod Regrown
 pub mod Unique
 pub mod Refusing
+pub mod Lines
+pub mod Reading
