@@ -5,6 +5,7 @@ pub mod Taking
 pub mod Sofar
 pub mod Readings
 pub mod Unique
+pub mod Refusing
 pub mod Kept
 pub mod Tables
 pub mod Walked

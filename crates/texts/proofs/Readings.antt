@@ -55,7 +55,7 @@ module _ (s t : List ℕ) (x : Expected) (place line : ℕ) (on : isOn x ≡ tru
   unfolding readOn
   read-out = rw on
 
-  turn : (n : ℕ) → readOn (suc n) t x s place line
+  pub turn : (n : ℕ) → readOn (suc n) t x s place line
       ≡ after (takenAt t x (frameAt s place line .frame) line) (λ y. readOn n (wordsAfter t x (frameAt s place line .frame)) y s (frameAt s place line .place) (frameAt s place line .line))
   unfolding readOn
   turn n = rw on

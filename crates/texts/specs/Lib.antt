@@ -3,5 +3,6 @@ pub mod Putting
 pub mod Read
 pub mod Reading
 pub mod Calls
+pub mod Refused
 pub mod Unique
 pub mod Laws
