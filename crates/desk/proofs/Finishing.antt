@@ -2,7 +2,7 @@
 use mathlib.Core.Path.{_≡_, refl, ap, sym, _∙_}
 use mathlib.Core.Bool.{Bool, true, false, true≢false}
 use mathlib.Core.List.{List, [], _∷_}
-use mathlib.Core.Logic.{_⊎_, inl, inr, ⊎-elim, _↔_}
+use mathlib.Core.Logic.{_↔_}
 use Prim.Native.Nat.{ℕ, _≤_, _<_, zero-le}
 use native.Mathlib.Omega.{arith}
 use borrow.Author.Tests.{le-leb, lt-leb}
@@ -20,12 +20,11 @@ use Rattle.frames.specs.Out.{refusalText}
 use Rattle.frames.specs.declared.Written.{Written}
 use Rattle.frames.specs.declared.Written.the-variants.{Length, Refused as NotWritten}
 use Rattle.planting.specs.Written.{refusalOf, writtenOf, bufferAfter}
-use Rattle.planting.specs.Refused.{Writes}
-use Rattle.planting.proofs.Refusing.{Writing, writing}
+use Rattle.planting.proofs.Refusing.{writes-exactly}
 use Rattle.owing.specs.Laws.{endText}
 use Rattle.owing.specs.declared.Mode.{Mode}
 use Rattle.owing.specs.declared.Mode.the-variants.{Table, Command, Nodes, Working, Stopped}
-use Rattle.desk.specs.Ending.{lastText, working, finished, finishedOut, FinishSays, inside, AtWork, FinishGives, AllFinishGives}
+use Rattle.desk.specs.Ending.{lastText, working, finished, finishedOut, FinishSays, inside, AtWork, Early, by10, FinishExactly}
 use Rattle.desk.specs.declared.State.{State}
 
 -- ---- what is to be written
@@ -111,37 +110,26 @@ at-work (Nodes order count taken command) w = absurd (true≢false (sym w))
 at-work (Working turns) w = (turns, refl)
 at-work Stopped w = absurd (true≢false (sym w))
 
-module _ (s : State) (out : List ℕ) where
-  abbrev Gives : Written → List ℕ → Type 0
-  Gives a out′ = FinishGives s out a out′
-
-  given : (b : Bool) → working (s .mode) ≡ b → (a : Written) (out′ : List ℕ) → Writing (when b 10) out (lastText s) a out′ → Gives a out′
-  given true e a out′ w = record {
-    by10 = (λ h. at-work (s .mode) e, λ h. w .earlier why.Busy (omega arith) .1 refl);
-    writes = record {
-      by15 = (λ h. absurd (omega (arith, w .writes .by15 .0 h .0)), λ h. absurd (h .0 (at-work (s .mode) e)));
-      written = λ n. (λ h. absurd (omega (arith, w .writes .written n .0 h .0)), λ h. absurd (h .0 (at-work (s .mode) e)));
-      holds = w .writes .holds;
-      keeps = w .writes .keeps;
-    };
-    no-other = λ r h. ⊎-elim (λ q. inl (sym (number-one why.Busy r q))) inr (w .no-other r h);
-  }
-  given false e a out′ w = record {
-    by10 = (λ h. absurd (omega (arith, w .earlier why.Busy (omega arith) .0 h)), λ h. absurd (no-work (s .mode) e h));
-    writes = record {
-      by15 = (λ h. (no-work (s .mode) e, w .writes .by15 .0 h .1), λ h. w .writes .by15 .1 (refl, h .1));
-      written = λ n. (λ h. (no-work (s .mode) e, w .writes .written n .0 h .1), λ h. w .writes .written n .1 (refl, h .1));
-      holds = w .writes .holds;
-      keeps = w .writes .keeps;
-    };
-    no-other = λ r h. ⊎-elim (λ q. absurd (omega (arith, number-low r))) inr (w .no-other r h);
-  }
-
-pub all-finish-gives : AllFinishGives
-unfolding finished finishedOut
-all-finish-gives s out a out′ h =
-    given s out (working (s .mode)) refl a out′ (rw (h .0, h .1) (writing out (lastText s) (when (working (s .mode)) 10) (low (working (s .mode)))))
+early : (mode : Mode) (b : Bool) → working mode ≡ b → (r : Refusal) → (numberOf r ≡ when b 10) ↔ Early mode r
+early mode true e r = (λ h. rw (number-one r why.Busy h) (by10 (at-work mode e)), λ w. busy-number w)
   where
-    low : (b : Bool) → when b 10 ≤ 14
-    low true = omega arith
-    low false = omega arith
+    busy-number : {r : Refusal} → Early mode r → numberOf r ≡ 10
+    busy-number (by10 w) = refl
+early mode false e r = (λ h. absurd (omega (arith, number-low r)), λ w. absurd (never w))
+  where
+    never : {r : Refusal} → Early mode r → ⊥
+    never (by10 w) = no-work mode e w
+
+late : (mode : Mode) (b : Bool) → working mode ≡ b → (0 ≡ when b 10) ↔ (AtWork mode → ⊥)
+late mode true e = (λ h. absurd (omega arith), λ f. absurd (f (at-work mode e)))
+late mode false e = (λ h. no-work mode e, λ f. refl)
+
+low : (b : Bool) → when b 10 < 18
+low true = omega arith
+low false = omega arith
+
+pub finish-exactly : FinishExactly
+unfolding finished finishedOut
+finish-exactly s out =
+    let b = working (s .mode) in
+    writes-exactly (Early (s .mode)) (AtWork (s .mode) → ⊥) out (lastText s) (when b 10) (record { most = low b; refused = early (s .mode) b refl; right = late (s .mode) b refl })

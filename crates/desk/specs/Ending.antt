@@ -1,7 +1,7 @@
 -- The end of the input: what is printed then, by what is waited for, and when nothing can be. Assumes nothing.
 use mathlib.Core.Path.{_≡_}
 use mathlib.Core.Bool.{Bool, true, false}
-use mathlib.Core.Logic.{_⊎_, _↔_}
+use mathlib.Core.Logic.{_↔_}
 use mathlib.Core.List.{List}
 use Prim.Native.Nat.{ℕ}
 use lib.ListN.{length}
@@ -9,9 +9,8 @@ use Rattle.refusal.specs.declared.Refusal.{Refusal}
 use Rattle.refusal.specs.declared.Refusal.the-variants as why
 use Rattle.update.specs.Refusals.{when}
 use Rattle.frames.specs.declared.Written.{Written}
-use Rattle.frames.specs.declared.Written.the-variants.{Refused as NotWritten}
 use Rattle.planting.specs.Written.{writtenOf, bufferAfter}
-use Rattle.planting.specs.Refused.{Writes}
+use Rattle.planting.specs.Writes.{Writes}
 use Rattle.owing.specs.Laws.{endText}
 use Rattle.owing.specs.declared.Mode.{Mode}
 use Rattle.owing.specs.declared.Mode.the-variants.{Table, Command, Nodes, Working, Stopped}
@@ -53,12 +52,12 @@ inside Stopped = false
 abbrev pub AtWork : Mode → Type 0
 AtWork mode = (turns : ℕ) × (mode ≡ Working turns)
 
--- 10 exactly then, 15 exactly where the buffer is shorter than what is to be written, and its length exactly otherwise
-pub record FinishGives (s : State) (out : List ℕ) (a : Written) (out′ : List ℕ) : Type 0 where
-  pub by10 : (a ≡ NotWritten why.Busy) ↔ AtWork (s .mode)
-  pub writes : Writes (AtWork (s .mode) → ⊥) out (lastText s) a out′
-  pub no-other : (r : Refusal) → a ≡ NotWritten r → (r ≡ why.Busy) ⊎ (r ≡ why.Buffer)
+-- 10 then, and nothing else before 15
+pub data Early (mode : Mode) : Refusal → Type 0 where
+  by10 : AtWork mode → Early mode why.Busy
 
--- every answer that fits what `finish` says is given exactly so
-abbrev pub AllFinishGives : Type 0
-AllFinishGives = (s : State) (out : List ℕ) (a : Written) (out′ : List ℕ) → FinishSays s out a out′ → FinishGives s out a out′
+-- `finish` answers and leaves exactly that: 10 and the buffer as it was while an update is at work; else 15 exactly where the buffer is shorter than what is to
+-- be written, and otherwise its length, and it stands at the buffer's start
+abbrev pub FinishExactly : Type 0
+FinishExactly = (s : State) (out : List ℕ) (a : Written) (out′ : List ℕ)
+    → FinishSays s out a out′ ↔ Writes (Early (s .mode)) (AtWork (s .mode) → ⊥) out (lastText s) a out′

@@ -2,12 +2,11 @@
 use mathlib.Core.Path.{_≡_, refl, ap, sym, _∙_}
 use mathlib.Core.Bool.{Bool, true, false, cond}
 use mathlib.Core.List.{List, [], _∷_}
-use mathlib.Core.Logic.{_↔_}
-use Prim.Native.Nat.{ℕ, _+_, _*_, _≤_, _<_}
+use Prim.Native.Nat.{ℕ, _+_, _*_}
 use native.Mathlib.Omega.{arith}
 use borrow.Author.Tests.{eqb-true, eqb-false, ltb-true}
 use lib.Dec.{eqb, ltb}
-use lib.ListN.{length, getD}
+use lib.ListN.{getD}
 use Rattle.refusal.specs.declared.Refusal.the-variants as why
 use Rattle.lines.specs.Hex.{numAt}
 use Rattle.lines.specs.Text.{lineAt}
@@ -16,7 +15,7 @@ use Rattle.lines.specs.declared.Line.{Line}
 use Rattle.lines.specs.declared.Line.the-variants.{Digits, Bad, End}
 use Rattle.lines.proofs.Exactly.{line-one, all-lines-exactly}
 use Rattle.frames.specs.Frames.{wrongLength, sized, headerOf, symbolOf, productionOf, equationOf, nodeOf, loadOf, replaceOf, dumpOf, kindOf, frameOf, lineAfter, stepOf, frameAt}
-use Rattle.frames.specs.Exactly.{childrenAt, Fields, header, symbol, production, equation, node, load, replace, dump, IsFrame, NoFrame, Astray, over as is-over, other as another, Finds, over, by13, by14, frame, FrameExactly}
+use Rattle.frames.specs.Exactly.{childrenAt, Fields, header, symbol, production, equation, node, load, replace, dump, IsFrame, Astray, over as is-over, other as another, Finds, over, by13, by14, frame, FrameExactly}
 use Rattle.frames.specs.declared.Step.{Step}
 use Rattle.frames.specs.declared.Frame.{Frame}
 use Rattle.frames.specs.declared.Frame.the-variants.{Header, Symbol, Production, Equation, Node, Load, Replace, Dump, Refused, Over}

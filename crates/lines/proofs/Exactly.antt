@@ -1,20 +1,20 @@
 -- A line is found exactly where there is one. Assumes nothing.
-use mathlib.Core.Path.{_≡_, refl, sym, _∙_}
+use mathlib.Core.Path.{_≡_, refl, sym}
 use mathlib.Core.Bool.{Bool, true, false, true≢false, _&&_, _||_}
 use mathlib.Core.List.{List}
-use mathlib.Core.Logic.{_⊎_, inl, inr, ⊎-elim, _↔_}
-use Prim.Native.Nat.{ℕ, _+_, _≤_, _<_}
+use mathlib.Core.Logic.{⊎-elim}
+use Prim.Native.Nat.{ℕ, _+_}
 use native.Mathlib.Omega.{arith}
-use borrow.Author.Tests.{ltb-true, leb-true, lt-ltb, le-ltb, le-leb, lt-leb}
+use borrow.Author.Tests.{ltb-true, leb-true, lt-ltb, le-ltb, le-leb}
 use lib.Dec.{ltb, leb}
 use lib.ListN.{length, getD}
 use Rattle.lines.specs.Hex.{isHex}
 use Rattle.lines.specs.Text.{lineAt}
-use Rattle.lines.specs.Exactly.{Hex, numeral, letter, IsLine, NoLine, LineExactly, AllLinesExactly}
+use Rattle.lines.specs.Exactly.{Hex, numeral, letter, IsLine, NoLine, AllLinesExactly}
 use Rattle.lines.specs.declared.Line.{Line}
 use Rattle.lines.specs.declared.Line.the-variants.{Digits, Bad, End}
 use Rattle.lines.proofs.Values.{lt-or-ge}
-use Rattle.lines.proofs.Rows.{Whole, row-is, row-hex, line-whole, line-end, line-says, end-says}
+use Rattle.lines.proofs.Rows.{row-is, row-hex, line-whole, line-end, line-says, end-says}
 
 -- the test of a digit says what a digit is
 hex-is : (b : ℕ) → isHex b ≡ true → Hex b

@@ -2,7 +2,7 @@
 use mathlib.Core.Path.{_≡_, refl, ap, sym, _∙_}
 use mathlib.Core.Bool.{Bool, true, false, cond, _||_}
 use mathlib.Core.List.{List, [], _∷_}
-use mathlib.Core.Logic.{_⊎_, inl, inr, ⊎-elim, _↔_}
+use mathlib.Core.Logic.{_⊎_, inl, inr}
 use Prim.Native.Nat.{ℕ, zero, suc, _≤_, _<_}
 use native.Mathlib.Omega.{arith}
 use borrow.Author.Tests.{ltb-true, ltb-false, lt-ltb, le-ltb}
@@ -20,7 +20,6 @@ use Rattle.table.proofs.Sound.{sound-exactly}
 use Rattle.table.proofs.FirstLaws.{or-left}
 use Rattle.tree.specs.Tree.{judgeTree}
 use Rattle.tree.specs.Refusals.{sizeRefusal, treeRefusal}
-use Rattle.tree.specs.Refused.{TreeRefused, SoundTree}
 use Rattle.tree.proofs.Handed.{or-zero}
 use Rattle.tree.proofs.Refused.{tree-most, all-trees-exactly}
 use Rattle.planting.specs.Written.{refusalOf}

@@ -1,7 +1,6 @@
 -- No second answer, buffer or memory fits what the calls on a tree's text say: each is an equation. Assumes nothing.
 use mathlib.Core.Path.{sym, _∙_}
 use lib.ListN.{length}
-use Rattle.refusal.specs.Only.{After}
 use Rattle.refusal.proofs.Fitting.{only-both}
 use Rattle.tree.specs.Refusals.{treeRefusal}
 use Rattle.planting.specs.Text.{treeText}

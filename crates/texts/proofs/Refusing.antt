@@ -1,21 +1,20 @@
 -- A table is written, read and refused exactly when. Assumes nothing.
 use mathlib.Core.Path.{_≡_, refl, ap, sym, _∙_}
 use mathlib.Core.Bool.{Bool, true, false, true≢false}
-use mathlib.Core.List.{List, [], _∷_}
-use mathlib.Core.Logic.{_⊎_, inl, inr, ⊎-elim, _↔_}
+use mathlib.Core.List.{List}
+use mathlib.Core.Logic.{⊎-elim}
 use Prim.Native.Nat.{ℕ, zero, suc, _+_, _≤_, _<_}
 use native.Mathlib.Omega.{arith}
 use borrow.Author.Tests.{eq-eqb, ne-eqb, le-leb, lt-leb}
 use lib.Dec.{eqb}
 use lib.ListN.{length, replicate}
-use lib.Seq.{paste}
 use Rattle.refusal.specs.Numbers.{numberOf}
 use Rattle.refusal.specs.declared.Refusal.{Refusal}
 use Rattle.refusal.specs.declared.Refusal.the-variants as why
 use Rattle.refusal.proofs.Distinct.{number-low}
 use Rattle.table.specs.Judge.{refusalAt, judgeTable}
 use Rattle.table.specs.Sound.{Sound}
-use Rattle.table.specs.Refused.{breaks, Lowest, Refused}
+use Rattle.table.specs.Refused.{breaks, Refused}
 use Rattle.table.proofs.Refused.{refused-exactly, five-numbers, frame-most, breaks-none, none-breaks, frame-lowest, lowest-frame}
 use Rattle.table.proofs.Sound.{sound-exactly}
 use Rattle.lines.specs.Exactly.{NoLine}
@@ -30,13 +29,13 @@ use Rattle.frames.specs.declared.Expected.the-variants.{AtHeader, AtSymbol, AtP
 use Rattle.frames.proofs.Exactly.{Expects, bad, astray, there, Stray, refused as was-refused, ended, strange, expects, found-bad, found-there, found-stray}
 use Rattle.planting.specs.Written.{refusalOf}
 use Rattle.planting.proofs.Numbers.{numbered}
-use Rattle.planting.proofs.Refusing.{Gives, writes-exactly}
+use Rattle.planting.proofs.Refusing.{writes-exactly}
 use Rattle.texts.specs.Text.{tableText}
-use Rattle.texts.specs.Read.{typeOf, typeAt, wordOf, constantOf, wordsAfter, strangeAt, judgedAt, takenAt}
+use Rattle.texts.specs.Read.{typeOf, typeAt, wordsAfter, strangeAt, judgedAt, takenAt}
 use Rattle.texts.specs.Reading.{Reading, done, stop, after, readOn, readingAt, tableAnswer, memoryAfter}
 use Rattle.texts.specs.Refused.{WriteTableExactly, storing, Comes, begin, next, TableRead, all, by13, by14, by1to5, TableExactly, ReadsTable, stopped, by15, read, ReadTableExactly}
 use Rattle.texts.specs.declared.Taken.{Taken}
-use Rattle.texts.specs.declared.Taken.the-variants.{Next, Stopped}
+use Rattle.texts.specs.declared.Taken.the-variants.{Stopped}
 use Rattle.texts.specs.declared.ReadTable.{ReadTable}
 use Rattle.texts.proofs.Taking.{never-ended, stopped-by, other-taken}
 use Rattle.texts.proofs.Readings.{turn, read-out, read-ends}

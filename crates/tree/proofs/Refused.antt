@@ -1,8 +1,8 @@
 -- Nodes that are handed in with own sets give each number exactly when its condition holds and none that is judged before it. Assumes nothing.
 use Prim.Native.Nat.{ℕ, zero, suc, _≤_, _<_}
-use mathlib.Core.Path.{_≡_, refl, ap, sym, _∙_}
+use mathlib.Core.Path.{_≡_, refl, sym, _∙_}
 use mathlib.Core.Bool.{Bool, true, false, cond}
-use mathlib.Core.Logic.{_⊎_, inl, inr, ⊎-elim, _↔_}
+use mathlib.Core.Logic.{_⊎_, inl, inr, ⊎-elim}
 use mathlib.Core.List.{List, [], _∷_}
 use native.Mathlib.Omega.{arith}
 use borrow.Author.Tests.{ltb-true, ltb-false, eqb-true, eqb-false, eq-eqb, ne-eqb, le-ltb}
@@ -20,7 +20,7 @@ use Rattle.table.proofs.Refused.{refused-exactly, five-numbers}
 use Rattle.table.proofs.Sound.{sound-exactly}
 use Rattle.tree.specs.Tree.{judgeNodes, judgeTree}
 use Rattle.tree.specs.Refusals.{sizeRefusal, treeRefusal}
-use Rattle.tree.specs.Refused.{Judges, unequal, number, shape, subtree, HandedExactly, TreeRefused, by1to5, by8, by6, by7, SoundTree, JudgeTreeExactly, AllTreesExactly}
+use Rattle.tree.specs.Refused.{Judges, unequal, number, shape, subtree, HandedExactly, TreeRefused, by1to5, by8, by6, by7, SoundTree, AllTreesExactly}
 use Rattle.tree.proofs.Exactly.{number-exactly, shape-exactly, three-verdicts, tree-exactly}
 use Rattle.tree.proofs.Handed.{or-zero, too-large}
 
