@@ -15,7 +15,7 @@ use Rattle.lines.specs.declared.Line.{Line}
 use Rattle.lines.specs.declared.Line.the-variants.{Digits, Bad, End}
 use Rattle.lines.proofs.Exactly.{line-one, all-lines-exactly}
 use Rattle.frames.specs.Frames.{wrongLength, sized, headerOf, symbolOf, productionOf, equationOf, nodeOf, loadOf, replaceOf, dumpOf, kindOf, frameOf, lineAfter, stepOf, frameAt}
-use Rattle.frames.specs.Exactly.{childrenAt, Fields, header, symbol, production, equation, node, load, replace, dump, IsFrame, Astray, over as is-over, other as another, Finds, over, by13, by14, frame, FrameExactly}
+use Rattle.frames.specs.Exactly.{childrenAt, Fields, header, symbol, production, equation, node, load, replace, dump, IsFrame, Astray, ended as text-ended, other as another, Finds, over, by13, by14, frame, FrameExactly}
 use Rattle.frames.specs.declared.Step.{Step}
 use Rattle.frames.specs.declared.Frame.{Frame}
 use Rattle.frames.specs.declared.Frame.the-variants.{Header, Symbol, Production, Equation, Node, Load, Replace, Dump, Refused, Over}
@@ -162,7 +162,7 @@ module _ (s : List ℕ) (place line : ℕ) where
   by-type {f} {type} {n} expected false e w = astray (another (w .line) (λ g m v. eqb-false type expected e (sym (w .begins) ∙ v .begins)))
 
   expects-of : {a : Step} (expected : ℕ) → Finds s place line a → Expects s place expected
-  expects-of expected (over h) = astray (is-over h)
+  expects-of expected (over h) = astray (text-ended h)
   expects-of expected (by13 w) = bad w
   expects-of expected (by14 {n} w) = astray (another (w .line) (λ f m v. w .none f expected (rw (line-one (v .line) (w .line)) at v)))
   expects-of expected (frame {f} {type} {n} w) = by-type expected (eqb type expected) refl w
@@ -179,10 +179,10 @@ module _ (s : List ℕ) (place line : ℕ) where
 
   stray-of : {a : Step} (expected : ℕ) → Finds s place line a → Astray s place expected → Stray line expected (a .frame)
   stray-of expected (over h) d = ended
-  stray-of expected (by13 w) (is-over h) = absurd (omega (arith, w .some))
+  stray-of expected (by13 w) (text-ended h) = absurd (omega (arith, w .some))
   stray-of expected (by13 w) (another {n} l h) = absurd (w .none n l)
   stray-of expected (by14 w) d = refused
-  stray-of expected (frame {f} {type} {n} w) (is-over h) = absurd (omega (arith, w .line .inside))
+  stray-of expected (frame {f} {type} {n} w) (text-ended h) = absurd (omega (arith, w .line .inside))
   stray-of expected (frame {f} {type} {n} w) (another l h) = strange (w .fields) (λ e. h f n (rw e at w))
 
   pub found-stray : (expected : ℕ) → Astray s place expected → Stray line expected (frameAt s place line .frame)

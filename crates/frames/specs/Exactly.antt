@@ -46,7 +46,7 @@ pub record NoFrame (s : List ℕ) (place n : ℕ) : Type 0 where
 
 -- 14 of a frame's place, where a frame of one type is expected: the text is over, or a line stands there which is no frame of that type
 pub data Astray (s : List ℕ) (place type : ℕ) : Type 0 where
-  over : length s ≤ place → Astray s place type
+  ended : length s ≤ place → Astray s place type
   other : {n : ℕ} → IsLine s place n → ((f : Frame) (m : ℕ) → IsFrame s place f type m → ⊥) → Astray s place type
 
 -- ---- exactly when

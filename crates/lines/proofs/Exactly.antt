@@ -10,18 +10,18 @@ use lib.Dec.{ltb, leb}
 use lib.ListN.{length, getD}
 use Rattle.lines.specs.Hex.{isHex}
 use Rattle.lines.specs.Text.{lineAt}
-use Rattle.lines.specs.Exactly.{Hex, numeral, letter, IsLine, NoLine, AllLinesExactly}
+use Rattle.lines.specs.Exactly.{HexDigit, numeral, letter, IsLine, NoLine, AllLinesExactly}
 use Rattle.lines.specs.declared.Line.{Line}
 use Rattle.lines.specs.declared.Line.the-variants.{Digits, Bad, End}
 use Rattle.lines.proofs.Values.{lt-or-ge}
 use Rattle.lines.proofs.Rows.{row-is, row-hex, line-whole, line-end, line-says, end-says}
 
 -- the test of a digit says what a digit is
-hex-is : (b : ℕ) → isHex b ≡ true → Hex b
+hex-is : (b : ℕ) → isHex b ≡ true → HexDigit b
 unfolding isHex
 hex-is b e = by (leb 48 b) (ltb b 58) (leb 97 b) (ltb b 103) refl refl refl refl e
   where
-    by : (p q r t : Bool) → leb 48 b ≡ p → ltb b 58 ≡ q → leb 97 b ≡ r → ltb b 103 ≡ t → (p && q || r && t) ≡ true → Hex b
+    by : (p q r t : Bool) → leb 48 b ≡ p → ltb b 58 ≡ q → leb 97 b ≡ r → ltb b 103 ≡ t → (p && q || r && t) ≡ true → HexDigit b
     by true true r t d f g h e = numeral (leb-true 48 b d) (omega (arith, ltb-true b 58 f))
     by true false true true d f g h e = letter (leb-true 97 b g) (omega (arith, ltb-true b 103 h))
     by true false true false d f g h e = absurd (true≢false (sym e))
@@ -30,7 +30,7 @@ hex-is b e = by (leb 48 b) (ltb b 58) (leb 97 b) (ltb b 103) refl refl refl refl
     by false q true false d f g h e = absurd (true≢false (sym e))
     by false q false t d f g h e = absurd (true≢false (sym e))
 
-is-hex : (b : ℕ) → Hex b → isHex b ≡ true
+is-hex : (b : ℕ) → HexDigit b → isHex b ≡ true
 unfolding isHex
 is-hex b (numeral l u) = rw (le-leb 48 b l, lt-ltb b 58 (omega arith))
 is-hex b (letter l u) = rw (le-leb 48 b (omega arith), le-ltb b 58 (omega arith), le-leb 97 b l, lt-ltb b 103 (omega arith))

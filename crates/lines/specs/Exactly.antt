@@ -8,16 +8,16 @@ use Rattle.lines.specs.Text.{lineAt}
 use Rattle.lines.specs.declared.Line.the-variants.{Digits, Bad, End}
 
 -- a lowercase hex digit: '0' to '9' are the bytes 48 to 57, 'a' to 'f' the bytes 97 to 102
-pub data Hex (b : ℕ) : Type 0 where
-  numeral : 48 ≤ b → b ≤ 57 → Hex b
-  letter : 97 ≤ b → b ≤ 102 → Hex b
+pub data HexDigit (b : ℕ) : Type 0 where
+  numeral : 48 ≤ b → b ≤ 57 → HexDigit b
+  letter : 97 ≤ b → b ≤ 102 → HexDigit b
 
 -- from a place on the text has n digits, 2 to 28 and even in number, and then LF, which is the byte 10
 pub record IsLine (s : List ℕ) (place n : ℕ) : Type 0 where
   pub some : 2 ≤ n
   pub few : n ≤ 28
   pub even : n % 2 ≡ 0
-  pub digits : (i : ℕ) → i < n → Hex (getD s (place + i) 0)
+  pub digits : (i : ℕ) → i < n → HexDigit (getD s (place + i) 0)
   pub inside : place + n < length s
   pub ended : getD s (place + n) 0 ≡ 10
 

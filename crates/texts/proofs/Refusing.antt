@@ -21,7 +21,7 @@ use Rattle.lines.specs.Exactly.{NoLine}
 use Rattle.lines.proofs.Values.{lt-or-ge}
 use Rattle.frames.specs.Frames.{lineAfter, frameAt}
 use Rattle.frames.specs.Walk.{entryOf, nextOf, isOn}
-use Rattle.frames.specs.Exactly.{Fields, header, symbol, production, equation, node, load, replace, dump, IsFrame, Astray, over}
+use Rattle.frames.specs.Exactly.{Fields, header, symbol, production, equation, node, load, replace, dump, IsFrame, Astray, ended as text-ended}
 use Rattle.frames.specs.declared.Frame.{Frame}
 use Rattle.frames.specs.declared.Step.{Step}
 use Rattle.frames.specs.declared.Expected.{Expected}
@@ -177,7 +177,7 @@ module _ (s : List ℕ) (place line : ℕ) where
   walk-to zero t x at l c h = by (isOn x) refl
     where
       by : (b : Bool) → isOn x ≡ b → TableRead s place line (readOn 0 t x s at l)
-      by true o = let w : Astray s at (typeAt x) = over (omega arith) in rw (stops-stray s t x at l 0 h o w) (by14 c o w)
+      by true o = let w : Astray s at (typeAt x) = text-ended (omega arith) in rw (stops-stray s t x at l 0 h o w) (by14 c o w)
       by false o = ends 0 t x at l c o
   walk-to (suc m) t x at l c h = by (walk-to m) (isOn x) refl
     where
