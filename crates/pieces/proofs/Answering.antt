@@ -15,12 +15,11 @@ use Rattle.owing.specs.declared.Mode.{Mode}
 use Rattle.owing.specs.declared.Mode.the-variants.{Table, Command, Nodes, Working, Stopped}
 use Rattle.telling.specs.Telling.{Worked, stepsWithin}
 use Rattle.desk.specs.Desk.{Desk, desk}
-use Rattle.desk.specs.Ending.{silent}
 use Rattle.desk.specs.Gathering.{Gathers}
 use Rattle.desk.specs.Refusals.{settledNumbers}
 use Rattle.desk.proofs.Bytes.{always-gathers}
 use Rattle.desk.proofs.Refusing.{all-state-gives}
-use Rattle.pieces.specs.Running.{moment}
+use Rattle.pieces.specs.Running.{silent, moment}
 use Rattle.pieces.specs.Feeding.{Feeds}
 use Rattle.pieces.specs.Faring.{Ready, Fares, toDo, Turns}
 use Rattle.pieces.specs.Laws.{Answered, AlwaysAnswered}

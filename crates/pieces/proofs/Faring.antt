@@ -31,12 +31,11 @@ use Rattle.desk.specs.declared.State.{State}
 use Rattle.desk.specs.Desk.{Desk, desk, tableOf, lineOf, owedFor, Wide, Fits}
 use Rattle.desk.specs.Refusals.{settledNumbers, stateRefusal}
 use Rattle.pieces.specs.Feeding.{Feeds}
-use Rattle.desk.specs.Ending.{silent}
 use Rattle.desk.specs.Gathering.{Gathers}
 use Rattle.desk.proofs.Refusing.{given-wide, all-state-gives}
 use Rattle.pieces.proofs.Bounds.{Modest, heard-modest}
 use Rattle.pieces.specs.Running as running
-use Rattle.pieces.specs.Running.{Moment, moment, momentOf, afterRounds, Goes, Runs}
+use Rattle.pieces.specs.Running.{Moment, silent, moment, momentOf, afterRounds, Goes, Runs}
 use Rattle.pieces.specs.Faring.{Ready, Sized, Fares, atWork, Turns}
 
 -- ---- turns in a row

@@ -4,7 +4,7 @@ use mathlib.Core.Bool.{true}
 use mathlib.Core.List.{List, map}
 use Prim.Native.Nat.{ℕ, zero, suc, _+_, _*_, _≤_, _<_}
 use native.Mathlib.Omega.{arith}
-use lib.ListN.{length, replicate}
+use lib.ListN.{length}
 use Rattle.circles.specs.Ranked.{member, upFrom}
 use Rattle.circles.specs.Laws.{Rising}
 use Rattle.circles.proofs.Sequence.{rising-keep}
@@ -28,17 +28,18 @@ use Rattle.frames.specs.Frames.{frameAt}
 use Rattle.frames.specs.Out.{dumpText, refusalText}
 use Rattle.frames.specs.declared.Frame.{Frame}
 use Rattle.frames.specs.declared.Frame.the-variants.{Header, Symbol, Production, Equation, Node, Load, Replace, Dump, Refused, Over}
-use Rattle.frames.specs.declared.Expected.the-variants.{AtHeader}
 use Rattle.texts.specs.Read.{typeOf}
 use Rattle.texts.specs.Reading as table
 use Rattle.texts.specs.Reading.{Reading, readingAt}
+use Rattle.texts.specs.Refused.{TableRead}
+use Rattle.texts.proofs.Refusing.{table-exactly}
 use Rattle.texts.proofs.Passing.{frame-on, none-left}
 use Rattle.planting.specs.Planting.{Nodes, good, bad, nodesAt}
 use Rattle.planting.proofs.Trees.{nodes-forth}
 use Rattle.session.specs.Session.{Told, toDone, openedThen, dumpOr, dumpTold, andOn, withNodes, command, commandsFrom, ownMemory, afterTable, session}
 use Rattle.session.specs.Lines.{SetsText}
-use Rattle.session.specs.Commands.{TreeHeld, no-tree, tree, Between, at-first, behind-history, LoadNumber, ReplaceNumber, absent, CommandAt, Command, load-refused, loads, replacement-refused, replaces, dump-refused, dumps, outOfPlace, over, bad-line, misplaced, bad-load, bad-replacement, Commands, stops, goes-on, TableFrom, Session, no-table, runs, EverySession}
-use Rattle.session.proofs.Reading.{TableRead, table-is, table-read, words-fit}
+use Rattle.session.specs.Commands.{TreeHeld, no-tree, tree, Between, at-first, behind-history, LoadNumber, ReplaceNumber, absent, CommandAt, Command, load-refused, loads, replacement-refused, replaces, dump-refused, dumps, outOfPlace, over, bad-line, misplaced, bad-load, bad-replacement, Commands, stops, goes-on, Session, no-table, runs, EverySession}
+use Rattle.session.proofs.Reading.{TableKept, table-kept, words-fit}
 use Rattle.session.proofs.Resting.{finished-state, Kept, keeps, rests, load-number, replace-number, dumpNumber, dump-number}
 use Rattle.session.proofs.Updates.{answered, load-carried, replacement-carried}
 
@@ -122,7 +123,7 @@ replacement-accepted {t = t} {new} {newOwns} {point} {r = r} {m} (behind-history
 
 -- ---- the commands: n of them at the most, as many as there are bytes left
 
-module _ (s t : List ℕ) (q : TableRead t) where
+module _ (s t : List ℕ) (q : TableKept t) where
   abbrev UpTo : ℕ → Type 0
   UpTo n = (place line : ℕ) (h : TreeHeld) (r : Record) (m : Memory) → Between t h r m → length s ≤ n + place → Commands s t place line h r m (commandsFrom n s t place line r m)
 
@@ -209,13 +210,13 @@ module _ (s t : List ℕ) (q : TableRead t) where
 
 -- ---- the session
 
-session-from : (s : List ℕ) (a : Reading) → TableFrom s (replicate 2657 0) AtHeader 0 1 a → Session s (afterTable s a)
+session-from : (s : List ℕ) (a : Reading) → TableRead s 0 1 a → Session s (afterTable s a)
 session-from s (table.done t place line) f =
     let c : Commands s t place line no-tree emptyRecord ownMemory (afterTable s (table.done t place line)) =
-    commands-run s t (table-read f) _ place line no-tree emptyRecord ownMemory at-first (omega arith) in
+    commands-run s t (table-kept f) _ place line no-tree emptyRecord ownMemory at-first (omega arith) in
     runs f c
 session-from s (table.stop refusal line) f = no-table f
 
 pub every-session : EverySession
 unfolding session
-every-session s = session-from s (readingAt s 0 1) (table-is s)
+every-session s = session-from s (readingAt s 0 1) (table-exactly s 0 1 (readingAt s 0 1) .0 refl)

@@ -4,9 +4,7 @@ use mathlib.Core.Bool.{true, false, true≢false}
 use mathlib.Core.List.{List, _++_}
 use Prim.Native.Nat.{ℕ, zero, suc, _+_, _≤_, _<_}
 use native.Mathlib.Omega.{arith}
-use lib.ListN.{length, replicate}
-use Rattle.refusal.specs.declared.Refusal.{Refusal}
-use Rattle.refusal.specs.declared.Refusal.the-variants as why
+use lib.ListN.{length}
 use Rattle.climb.specs.System.{Assignment, graphOf}
 use Rattle.wire.specs.Instances.{system}
 use Rattle.wire.specs.Replaced.{nodesAfter, ownsAfter}
@@ -25,44 +23,20 @@ use Rattle.frames.specs.Frames.{frameAt}
 use Rattle.frames.specs.Out.{refusalText}
 use Rattle.frames.specs.declared.Frame.{Frame}
 use Rattle.frames.specs.declared.Frame.the-variants.{Header, Symbol, Production, Equation, Node, Load, Replace, Dump, Refused, Over}
-use Rattle.frames.specs.declared.Expected.{Expected}
-use Rattle.frames.specs.declared.Expected.the-variants.{AtHeader, Ended}
-use Rattle.texts.specs.Read.{takenAt}
 use Rattle.texts.specs.Reading as table
-use Rattle.texts.specs.Reading.{Reading, readOn, readingAt}
-use Rattle.texts.specs.declared.Taken.the-variants.{Stopped}
-use Rattle.texts.proofs.Readings.{read-out, read-turn, read-ends}
-use Rattle.texts.proofs.Passing.{frame-on, none-left, over-taken, taken-type}
+use Rattle.texts.specs.Reading.{Reading, readingAt}
+use Rattle.texts.specs.Refused.{TableRead}
+use Rattle.texts.proofs.Refusing.{table-exactly}
+use Rattle.texts.proofs.Passing.{frame-on, none-left}
 use Rattle.planting.specs.Planting.{good}
 use Rattle.session.specs.Session.{Told, openedThen, toDone, dumpTold, andOn, command, commandsFrom, ownMemory, afterTable, session}
 use Rattle.session.specs.Lines.{LoadText, ReplacementText, UpdateText, SetsText}
-use Rattle.session.specs.Commands.{TreeHeld, no-tree, tree, Between, at-first, behind-history, LoadNumber, ReplaceNumber, too-many, judged, absent, outside, CommandAt, Command, load-refused, loads, replacement-refused, replaces, dump-refused, dumps, outOfPlace, Stops, over, bad-line, misplaced, bad-load, bad-replacement, Commands, stops, goes-on, TableFrom, complete, refused as table-refused, taken, no-table, runs, OnlySession}
-use Rattle.session.proofs.Reading.{TableRead, table-read}
+use Rattle.session.specs.Commands.{TreeHeld, no-tree, tree, Between, at-first, behind-history, LoadNumber, ReplaceNumber, too-many, judged, absent, outside, CommandAt, Command, load-refused, loads, replacement-refused, replaces, dump-refused, dumps, outOfPlace, Stops, over, bad-line, misplaced, bad-load, bad-replacement, Commands, stops, goes-on, no-table, runs, OnlySession}
+use Rattle.session.proofs.Reading.{TableKept, table-kept}
 use Rattle.session.proofs.Resting.{finished-state, rests, load-number, replace-number, dump-number}
 use Rattle.session.proofs.Updates.{load-carried, replacement-carried}
 use Rattle.session.proofs.Texts.{one-update, one-dump}
 use Rattle.session.proofs.Commands.{opens, nodes-behind, sets-text}
-
--- ---- the table
-
-reading-only : {s w : List ℕ} {x : Expected} {place line : ℕ} {a : Reading} → TableFrom s w x place line a → (n : ℕ) → length s ≤ n + place → a ≡ readOn n w x s place line
-reading-only {s} {w} {place = place} {line} complete n enough = sym (read-ends n s w Ended place line refl)
-reading-only {s} {w} {x} {place} {line} (table-refused on e) zero enough =
-    let f : takenAt w x (frameAt s place line .frame) line ≡ Stopped why.Frame line = rw (none-left s place line (omega arith)) (over-taken w x line) in
-    stops-same (sym e ∙ f) ∙ sym (read-out s w x place line on)
-  where
-    stops-same : {r q : Refusal} {l k : ℕ} → Stopped r l ≡ Stopped q k → table.stop r l ≡ table.stop q k
-    stops-same {r} {q} {l} {k} h = let a : r ≡ q = cc in let b : l ≡ k = cc in cc
-reading-only {s} {w} {x} {place} {line} (table-refused on e) (suc n) enough = sym (read-turn s w x place line on n ∙ rw e)
-reading-only {s} {w} {x} {place} {line} (taken {y = y} on e rest) zero enough =
-    let moved = taken-type w x (frameAt s place line .frame) line y e in
-    absurd (nothing (rw (none-left s place line (omega arith)) at moved))
-  where
-    nothing : 0 < 0 → ⊥
-    nothing h = omega arith
-reading-only {s} {w} {x} {place} {line} (taken {y = y} on e rest) (suc n) enough =
-    let moved = frame-on s place line (taken-type w x (frameAt s place line .frame) line y e) in
-    reading-only rest n (omega arith) ∙ sym (read-turn s w x place line on n ∙ rw e)
 
 -- ---- the numbers
 
@@ -118,7 +92,7 @@ misplaced-prints s t Dump line place next r m go e = absurd (true≢false (sym e
 misplaced-prints s t (Refused a b) line place next r m go e = absurd (true≢false (sym e))
 misplaced-prints s t Over line place next r m go e = absurd (true≢false (sym e))
 
-module _ (s t : List ℕ) (q : TableRead t) where
+module _ (s t : List ℕ) (q : TableKept t) where
   -- the first of at most n commands, and k behind it
   record Turned (n place line : ℕ) (r : Record) (m : Memory) : Type 0 where
     k : ℕ
@@ -227,12 +201,11 @@ module _ (s t : List ℕ) (q : TableRead t) where
 
 -- ---- the session
 
-reading-is : {s : List ℕ} {a : Reading} → TableFrom s (replicate 2657 0) AtHeader 0 1 a → a ≡ readingAt s 0 1
-unfolding readingAt
-reading-is {s} f = reading-only f (length s) (omega arith)
+reading-is : {s : List ℕ} {a : Reading} → TableRead s 0 1 a → a ≡ readingAt s 0 1
+reading-is {s} {a} f = table-exactly s 0 1 a .1 f
 
 pub only-session : OnlySession
 unfolding session
 only-session s text (no-table f) = ap (afterTable s) (reading-is f)
 only-session s text (runs {place = place} {line} f c) =
-    commands-only s _ (table-read f) c (length s) emptyRecord ownMemory at-first (omega arith) ∙ ap (afterTable s) (reading-is f)
+    commands-only s _ (table-kept f) c (length s) emptyRecord ownMemory at-first (omega arith) ∙ ap (afterTable s) (reading-is f)

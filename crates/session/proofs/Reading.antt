@@ -1,69 +1,28 @@
--- What a session reads: the table frame by frame, and that its words and a command's own sets are words of 64 bits. Assumes nothing.
-use mathlib.Core.Path.{_≡_, refl}
-use mathlib.Core.Bool.{Bool, true, false, cond, true≢false}
+-- What a session reads: a table's words and a command's own sets are words of 64 bits, and the table is sound. Assumes nothing.
+use mathlib.Core.Path.{_≡_, sym, ap, subst}
 use mathlib.Core.List.{List, [], _∷_}
-use Prim.Native.Nat.{ℕ, zero, suc, _+_, _*_, _^_, _≤_, _<_}
+use Prim.Native.Nat.{ℕ, zero, suc, _+_, _*_, _^_, _<_}
 use native.Mathlib.Omega.{arith}
-use lib.Dec.{eqb, lit<}
-use lib.ListN.{length, set, replicate}
-use Rattle.refusal.specs.declared.Refusal.the-variants as why
+use lib.Dec.{lit<}
+use lib.ListN.{set, replicate}
 use Rattle.table.specs.Judge.{judgeTable}
 use Rattle.wire.specs.Laws.{Words}
 use Rattle.update.proofs.Filled.{getD-zeros}
-use Rattle.frames.specs.Frames.{frameAt}
-use Rattle.frames.specs.Walk.{isOn}
+use Rattle.frames.specs.Frames.{lineAfter}
+use Rattle.frames.specs.Exactly.{IsFrame, frame}
+use Rattle.frames.specs.declared.Step.{Step}
 use Rattle.frames.specs.declared.Frame.{Frame}
 use Rattle.frames.specs.declared.Frame.the-variants.{Header, Symbol, Production, Equation, Node, Load, Replace, Dump, Refused, Over}
 use Rattle.frames.specs.declared.Expected.{Expected}
 use Rattle.frames.specs.declared.Expected.the-variants.{AtHeader, AtSymbol, AtProduction, AtEquation, Ended}
 use Rattle.frames.proofs.Bounds.{Bounded, bounded}
-use Rattle.texts.specs.Read.{typeOf, typeAt, wordOf, constantOf, store, wordsAfter, takenAt, Sofar}
+use Rattle.frames.proofs.Exactly.{frame-exactly}
+use Rattle.texts.specs.Read.{wordOf, constantOf, store}
 use Rattle.texts.specs.Reading as table
-use Rattle.texts.specs.Reading.{Reading, after, readOn, readingAt}
-use Rattle.texts.specs.declared.Taken.{Taken}
-use Rattle.texts.specs.declared.Taken.the-variants.{Next, Stopped}
-use Rattle.texts.proofs.Sofar.{goes}
-use Rattle.texts.proofs.Readings.{read-out, read-turn, read-ends}
-use Rattle.texts.proofs.Passing.{frame-on, none-left, over-taken, taken-type}
+use Rattle.texts.specs.Refused.{ReadTo, begin, next, TableRead, all}
+use Rattle.texts.proofs.Refusing.{table-exactly}
+use Rattle.texts.proofs.Tables.{table-forth}
 use Rattle.planting.specs.Laws.{AllFit}
-use Rattle.session.specs.Commands.{TableFrom, complete, refused, taken}
-
--- ---- the bound on the frames of a table is never met
-
-module _ (s : List ℕ) where
-  -- with n frames at the most
-  abbrev Reads : ℕ → Type 0
-  Reads n = (w : List ℕ) (x : Expected) (place line : ℕ) → length s ≤ n + place → TableFrom s w x place line (readOn n w x s place line)
-
-  -- none is expected at the end alone
-  at-end : (w : List ℕ) (x : Expected) (place line : ℕ) → isOn x ≡ false → TableFrom s w x place line (table.done w place line)
-  at-end w AtHeader place line off = absurd (true≢false off)
-  at-end w (AtSymbol i) place line off = absurd (true≢false off)
-  at-end w (AtProduction p) place line off = absurd (true≢false off)
-  at-end w (AtEquation p q k) place line off = absurd (true≢false off)
-  at-end w Ended place line off = complete
-
-  module _ (w : List ℕ) (x : Expected) (place line : ℕ) where
-    by-expected : (n : ℕ) (b : Bool) → isOn x ≡ b → (isOn x ≡ true → TableFrom s w x place line (readOn n w x s place line))
-        → TableFrom s w x place line (readOn n w x s place line)
-    by-expected n false off f = rw (read-ends n s w x place line off) (at-end w x place line off)
-    by-expected n true on f = f on
-
-    by-taken : (n : ℕ) → Reads n → length s ≤ suc n + place → isOn x ≡ true → (k : Taken) → takenAt w x (frameAt s place line .frame) line ≡ k
-        → TableFrom s w x place line (after k (λ y. readOn n (wordsAfter w x (frameAt s place line .frame)) y s (frameAt s place line .place) (frameAt s place line .line)))
-    by-taken n rest enough on (Next y) e =
-        let moved = frame-on s place line (taken-type w x (frameAt s place line .frame) line y e) in
-        taken on e (rest (wordsAfter w x (frameAt s place line .frame)) y (frameAt s place line .place) (frameAt s place line .line) (omega arith))
-    by-taken n rest enough on (Stopped refusal at) e = refused on e
-
-  table-from : (n : ℕ) → Reads n
-  table-from zero w x place line enough =
-      let e : takenAt w x (frameAt s place line .frame) line ≡ Stopped why.Frame line = rw (none-left s place line (omega arith)) (over-taken w x line) in
-      by-expected w x place line 0 (isOn x) refl (λ on. rw (read-out s w x place line on) (refused on e))
-  table-from (suc n) w x place line enough =
-      let rest = table-from n in
-      by-expected w x place line (suc n) (isOn x) refl
-      (λ on. rw (read-turn s w x place line on n) (by-taken w x place line n rest enough on (takenAt w x (frameAt s place line .frame) line) refl))
 
 -- ---- words of 64 bits
 
@@ -108,39 +67,31 @@ words-stored t (AtEquation p q i) w c h k l =
     words-set (set t (97 + 2 * (20 * p + (4 * q + i))) w) (98 + 2 * (20 * p + (4 * q + i))) c (words-set t (97 + 2 * (20 * p + (4 * q + i))) w h k) l
 words-stored t Ended w c h k l = h
 
-words-after : (t : List ℕ) (x : Expected) (f : Frame) → Words t → Bounded f → Words (wordsAfter t x f)
-unfolding wordsAfter
-words-after t x f h b = by-type (eqb (typeOf f) (typeAt x))
-  where
-    by-type : (same : Bool) → Words (cond same (store t x (wordOf f) (constantOf f)) t)
-    by-type true = words-stored t x (wordOf f) (constantOf f) h (word-small f b) (constant-small f b)
-    by-type false = h
+-- ---- a table that was read to its end
 
--- a table that was read to its end
-pub record TableRead (t : List ℕ) : Type 0 where
-  pub words : Words t
-  pub sound : judgeTable t ≡ 0
-
-abbrev Sound : Reading → Type 0
-Sound (table.done t place line) = TableRead t
-Sound (table.stop refusal line) = Unit {0}
-
-table-sound : {s w : List ℕ} {x : Expected} {place line : ℕ} {a : Reading} → TableFrom s w x place line a → Words w → Sofar w x → Sound a
-table-sound complete h so = record { words = h; sound = so }
-table-sound (refused on e) h so = tt
-table-sound {s} {w} {x} {place} {line} (taken {y = y} on e rest) h so =
-    table-sound rest (words-after w x (frameAt s place line .frame) h (bounded s place line)) (goes w x (frameAt s place line .frame) line y so e)
+-- a frame that stands in a text has fields of their widths
+frame-small : {s : List ℕ} {place line type n : ℕ} {f : Frame} → IsFrame s place f type n → Bounded f
+frame-small {s} {place} {line} {type} {n} {f} i =
+    let e = frame-exactly s place line (record { frame = f; place = place + (n + 1); line = lineAfter line }) .1 (frame i) in
+    subst Bounded (sym (ap (λ (a : Step). a .frame) e)) (bounded s place line)
 
 zeros : (n : ℕ) → Words (replicate n 0)
 zeros n i = rw (getD-zeros n i) (lit< tt)
 
--- what the definition reads is so related to the text
-pub table-is : (s : List ℕ) → TableFrom s (replicate 2657 0) AtHeader 0 1 (readingAt s 0 1)
-unfolding readingAt
-table-is s = table-from s (length s) (replicate 2657 0) AtHeader 0 1 (omega arith)
+words-to : {s t : List ℕ} {place line at l : ℕ} {x : Expected} → ReadTo s place line t x at l → Words t
+words-to begin = zeros 2657
+words-to (next {t} {x} {l = l} {f = f} c i none) =
+    let b = frame-small {line = l} i in words-stored t x (wordOf f) (constantOf f) (words-to c) (word-small f b) (constant-small f b)
 
-pub table-read : {s t : List ℕ} {place line : ℕ} → TableFrom s (replicate 2657 0) AtHeader 0 1 (table.done t place line) → TableRead t
-table-read f = table-sound f (zeros 2657) tt
+pub record TableKept (t : List ℕ) : Type 0 where
+  pub words : Words t
+  pub sound : judgeTable t ≡ 0
+
+pub table-kept : {s t : List ℕ} {place line : ℕ} → TableRead s 0 1 (table.done t place line) → TableKept t
+table-kept {s} {t} {place} {line} (all c) =
+    record { words = words-to c; sound = table-forth s 0 1 t place line (sym (table-exactly s 0 1 (table.done t place line) .1 (all c))) .sound }
+
+-- ---- a command's own sets
 
 pub words-fit : (ps owns : List ℕ) → AllFit ps owns → Words owns
 words-fit [] [] f i = lit< tt

@@ -4,7 +4,7 @@ use mathlib.Core.Path.{_≡_}
 use mathlib.Core.Bool.{Bool, true, false}
 use mathlib.Core.List.{List, [], _++_}
 use Prim.Native.Nat.{ℕ, _+_, _-_, _≤_, _<_}
-use lib.ListN.{length, getD, replicate}
+use lib.ListN.{length, getD}
 use Rattle.refusal.specs.Numbers.{numberOf}
 use Rattle.refusal.specs.declared.Refusal.{Refusal}
 use Rattle.table.specs.Words.{leftOf}
@@ -19,15 +19,10 @@ use Rattle.demands.specs.Engine.{ours}
 use Rattle.demands.specs.History.{WorkedToDone, History}
 use Rattle.frames.specs.declared.Frame.{Frame}
 use Rattle.frames.specs.declared.Frame.the-variants.{Header, Symbol, Production, Equation, Node, Load, Replace, Dump, Refused, Over}
-use Rattle.frames.specs.declared.Expected.{Expected}
-use Rattle.frames.specs.declared.Expected.the-variants.{AtHeader, Ended}
 use Rattle.frames.specs.Frames.{frameAt}
-use Rattle.frames.specs.Walk.{isOn}
 use Rattle.frames.specs.Out.{refusalText}
-use Rattle.texts.specs.declared.Taken.the-variants.{Next, Stopped}
-use Rattle.texts.specs.Read.{takenAt, wordsAfter}
 use Rattle.texts.specs.Reading as table
-use Rattle.texts.specs.Reading.{Reading}
+use Rattle.texts.specs.Refused.{TableRead}
 use Rattle.planting.specs.Planting.{Nodes, good, bad, nodesAt}
 use Rattle.session.specs.Session.{session, ownMemory}
 use Rattle.session.specs.Lines.{LoadText, ReplacementText, SetsText}
@@ -133,19 +128,11 @@ pub data Commands (s t : List ℕ) : ℕ → ℕ → TreeHeld → Record → Mem
 
 -- ---- the session
 
--- the table, frame by frame: w are the words so far and x is the frame that is expected
-pub data TableFrom (s : List ℕ) : List ℕ → Expected → ℕ → ℕ → Reading → Type 0 where
-  complete : {w : List ℕ} {place line : ℕ} → TableFrom s w Ended place line (table.done w place line)
-  refused : {w : List ℕ} {x : Expected} {place line at : ℕ} {refusal : Refusal} → isOn x ≡ true
-      → takenAt w x (frameAt s place line .frame) line ≡ Stopped refusal at → TableFrom s w x place line (table.stop refusal at)
-  taken : {w : List ℕ} {x y : Expected} {place line : ℕ} {a : Reading} → isOn x ≡ true → takenAt w x (frameAt s place line .frame) line ≡ Next y
-      → TableFrom s (wordsAfter w x (frameAt s place line .frame)) y (frameAt s place line .place) (frameAt s place line .line) a → TableFrom s w x place line a
-
 -- all that is printed for the text s: the refusal of its table, or what its commands print, with no tree at first
 pub data Session (s : List ℕ) : List ℕ → Type 0 where
-  no-table : {refusal : Refusal} {line : ℕ} → TableFrom s (replicate 2657 0) AtHeader 0 1 (table.stop refusal line)
+  no-table : {refusal : Refusal} {line : ℕ} → TableRead s 0 1 (table.stop refusal line)
       → Session s (refusalText (numberOf refusal) line)
-  runs : {t text : List ℕ} {place line : ℕ} → TableFrom s (replicate 2657 0) AtHeader 0 1 (table.done t place line)
+  runs : {t text : List ℕ} {place line : ℕ} → TableRead s 0 1 (table.done t place line)
       → Commands s t place line no-tree emptyRecord ownMemory text → Session s text
 
 -- what the definition computes is such a session, for every text
