@@ -1,18 +1,18 @@
 // A tape's calls, one after the other over the same record and memory.
-use crate::each::load;
-use crate::each::read;
-use crate::each::replace;
-use crate::each::run;
-use crate::each::run_record;
-use crate::each::step;
+use crate::lending::run_lent;
 use crate::mark::tell_memory;
+use crate::reading::read;
 use crate::reading::read_day;
+use crate::tape::ALL;
 use crate::tape::Call;
 use crate::tape::Change;
 use crate::tape::Look;
 use crate::tape::Work;
 use crate::tape::call_of;
 use crate::tell::say;
+use crate::tell::tell_advanced;
+use crate::tell::tell_begun;
+use crate::tell::tell_stepped;
 use update::Record;
 
 // Some of the nodes; all of them where there aren't as many.
@@ -56,16 +56,24 @@ fn change(
         } => {
             let tree = nodes_of(nodes, from, to);
             let own = owns_of(owns, from, upto);
-            load(table, r, tree, own, held, held_owns, sets, before)
+            let begun = engine::load(table, r, tree, own, held, held_owns, sets, before);
+            tell_begun(b"load: ", begun)
         }
         Change::Short => {
             let mut few = [0u64; 4095];
-            load(table, r, nodes, owns, held, held_owns, &mut few, before)
+            let begun = engine::load(table, r, nodes, owns, held, held_owns, &mut few, before);
+            tell_begun(b"load: ", begun)
         }
-        Change::Replace { point, from, to } => {
+        Change::Replace {
+            point,
+            from,
+            to,
+            owns: behind,
+        } => {
             let part = nodes_of(nodes, from, to);
-            let own = owns_of(owns, from, to);
-            replace(table, r, point, part, own, held, held_owns, sets, before)
+            let own = owns_of(owns, behind, ALL);
+            let begun = engine::replace(table, r, point, part, own, held, held_owns, sets, before);
+            tell_begun(b"replace: ", begun)
         }
     }
 }
@@ -80,9 +88,15 @@ fn work<'a>(
     before: &'a [u64; 4096],
 ) -> Record {
     match work {
-        Work::Step => step(table, r, held, held_owns, sets, before),
-        Work::Run(budget) => run(table, r, held, held_owns, sets, before, budget),
-        Work::RunRecord(budget) => run_record(table, r, held, held_owns, sets, before, budget),
+        Work::Step => tell_stepped(engine::step(table, r, held, held_owns, sets, before)),
+        Work::Run(budget) => {
+            let d = run_lent(table, r, held, held_owns, sets, before, budget);
+            tell_advanced(b"run ", budget, d)
+        }
+        Work::RunRecord(budget) => {
+            let d = engine::run_record(table, r, held, held_owns, sets, before, budget);
+            tell_advanced(b"run_record ", budget, d)
+        }
     }
 }
 

@@ -1,7 +1,6 @@
 // Calls all that the engine hands out, on two days: session A's, and one of a tree of 512 nodes. Each line says what a call answers, and behind a bar the record that it
 // leaves. `stdout` has the lines that the paper and the recorded sessions ask for, so a call that answers otherwise is found here, by running it.
 mod act;
-mod each;
 mod lending;
 mod mark;
 mod reading;
@@ -12,8 +11,6 @@ use act::perform;
 use planting::ReadTree;
 use planting::read_tree;
 use tape::ALL;
-use tape::LEAF;
-use tape::NONE;
 use tell::say;
 use texts::ReadTable;
 use texts::read_table;
@@ -54,10 +51,10 @@ fn call_day(table: [u64; 2657], nodes: &[u8], owns: &[u64], count: usize, point:
     );
 }
 
-// A day's text has its table and its tree. The leaf at the point gets another own set.
-fn tell_text(text: &[u8], point: usize, own: u64) {
+// A day's text has its table and its tree; the leaf at the point is replaced.
+fn tell_text(text: &[u8], point: usize) {
     let mut table = [0u64; 2657];
-    let mut nodes = [0u8; ALL];
+    let mut nodes = [3u8; ALL];
     let mut owns = [0u64; ALL];
     let ReadTable::Read { place, line } = read_table(text, 0, 1, &mut table) else {
         return;
@@ -66,16 +63,10 @@ fn tell_text(text: &[u8], point: usize, own: u64) {
     else {
         return;
     };
-    if NONE <= point {
-        return;
-    }
-    nodes[NONE] = 3;
-    nodes[LEAF] = nodes[point];
-    owns[LEAF] = own;
     call_day(table, &nodes, &owns, count, point);
 }
 
-fn tell_day(name: &[u8], point: usize, own: u64) {
+fn tell_day(name: &[u8], point: usize) {
     let mut text = io::large_buffer();
     let fd = os::open_read(name);
     if fd < 0 {
@@ -86,11 +77,11 @@ fn tell_day(name: &[u8], point: usize, own: u64) {
     libc::close(fd);
     say(name);
     say(b"\n");
-    tell_text(&text[..length], point, own);
+    tell_text(&text[..length], point);
 }
 
 fn main() {
     say(b"| held open nodes point part rank round circles evaluations\n");
-    tell_day(b"session-a.txt", 1, 0);
-    tell_day(b"full-512.txt", 511, 0x0000_0200_0000_0000);
+    tell_day(b"session-a.txt", 1);
+    tell_day(b"full-512.txt", 511);
 }

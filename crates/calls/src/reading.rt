@@ -1,11 +1,24 @@
 // Readings of the held tree, with no update open.
-use crate::each::read;
 use crate::mark::FIRST;
 use crate::mark::mix;
 use crate::tell::say;
 use crate::tell::say_set;
+use crate::tell::tell_reading;
 use update::Reading;
 use update::Record;
+
+pub fn read(
+    table: &[u64; 2657],
+    record: Record,
+    held: &[u8; 512],
+    held_owns: &[u64; 512],
+    sets: &[u64; 4096],
+    before: &[u64; 4096],
+    instance: usize,
+) {
+    let reading = engine::read(table, record, held, held_owns, sets, before, instance);
+    tell_reading(instance, reading);
+}
 
 // The set read; what is refused counts as no set could.
 fn set_of(reading: Reading) -> u64 {

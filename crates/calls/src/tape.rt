@@ -1,7 +1,7 @@
 // The calls of a day as a tape, a letter each.
 use std::num::wrapping_sub_usize;
 
-// What may change the held tree: a load of some of the day's nodes and own sets; a load with a set too few lent; a replacement by some of the nodes.
+// Some of a day's nodes with some of its own sets: for a load, for one with a set too few lent, for a replacement at a point.
 pub enum Change {
     Load {
         from: usize,
@@ -13,6 +13,7 @@ pub enum Change {
         point: usize,
         from: usize,
         to: usize,
+        owns: usize,
     },
 }
 
@@ -42,12 +43,10 @@ pub enum Call {
 // More rounds than an update of these days takes.
 const ENOUGH: u64 = 1_000_000;
 
-// Behind the nodes of a day: a production that no table here has, and the leaf with its other own set.
-pub const NONE: usize = 512;
+// Behind the nodes of a day, of which there are 512 at most, stands a production that no table here has, with an empty own set.
+const LAST: usize = 512;
 
-pub const LEAF: usize = 513;
-
-pub const ALL: usize = 514;
+pub const ALL: usize = 513;
 
 fn load_of(from: usize, to: usize, owns: usize) -> Call {
     Call::Change(Change::Load {
@@ -57,31 +56,33 @@ fn load_of(from: usize, to: usize, owns: usize) -> Call {
     })
 }
 
-fn replace_of(point: usize, from: usize, to: usize) -> Call {
+fn replace_of(point: usize, from: usize, to: usize, owns: usize) -> Call {
     Call::Change(Change::Replace {
         point: point,
         from: from,
         to: to,
+        owns: owns,
     })
 }
 
 fn change_of(letter: u8, nodes: usize, point: usize) -> Call {
+    let last = wrapping_sub_usize(nodes, 1);
     match letter {
         b'l' => load_of(0, nodes, nodes),
-        b'f' => load_of(0, nodes, wrapping_sub_usize(nodes, 1)),
-        b'b' => load_of(NONE, LEAF, LEAF),
-        b'm' => load_of(0, LEAF, LEAF),
+        b'f' => load_of(0, nodes, last),
+        b'b' => load_of(LAST, ALL, ALL),
+        b'm' => load_of(0, ALL, ALL),
         b'h' => Call::Change(Change::Short),
-        b'p' => replace_of(point, LEAF, ALL),
-        b'g' => replace_of(nodes, LEAF, ALL),
-        b'w' => replace_of(point, 0, 1),
-        b'x' => replace_of(point, NONE, LEAF),
-        b't' => replace_of(point, 510, NONE),
+        b'p' => replace_of(point, last, nodes, LAST),
+        b'g' => replace_of(nodes, last, nodes, LAST),
+        b'w' => replace_of(point, 0, 1, LAST),
+        b'x' => replace_of(point, LAST, ALL, LAST),
+        b't' => replace_of(point, 510, LAST, 511),
         _ => Call::Look(Look::Line),
     }
 }
 
-// A letter's call on a day of so many nodes, whose leaf at the point gets another own set:
+// A letter's call on a day of so many nodes, whose leaf at the point is replaced by its last node with an empty own set:
 // `l` loads the tree, `f` with an own set too few, `b` one of a production beyond the table's, `m` one of 513 nodes, `h` with a set too few lent;
 // `p` replaces the leaf, `g` behind the last node, `w` by a part of another symbol, `x` by one of a production beyond the table's, `t` by one of two nodes;
 // `s` steps, `0`, `1` and `e` run with budgets of none, one and enough, `u` and `v` run by value with none and one;

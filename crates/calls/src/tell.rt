@@ -1,8 +1,11 @@
 // What a call answers, and the record that it leaves, as a line.
+use engine::Begun;
 use libc::STDOUT_FILENO;
 use refusal::Refusal;
 use refusal::Verdict;
 use refusal::number;
+use steps::Advanced;
+use steps::Stepped;
 use update::Answer;
 use update::Open;
 use update::Reading;
@@ -45,13 +48,6 @@ fn tell_done(circles: u64, evaluations: u64, changed: u64) {
     say_count(b", changed ", changed);
 }
 
-pub fn tell_verdict(verdict: Verdict) {
-    match verdict {
-        Verdict::Sound => say(b"opened"),
-        Verdict::Refused(r) => tell_refusal(r),
-    }
-}
-
 fn tell_round(least: usize, round: u64, size: usize, closed: bool) {
     say_count(b"round ", round);
     say_count(b" of circle ", least as u64);
@@ -61,7 +57,47 @@ fn tell_round(least: usize, round: u64, size: usize, closed: bool) {
     }
 }
 
-pub fn tell_answer(answer: Answer) {
+fn open_number(open: Open) -> u64 {
+    match open {
+        Open::Nothing => 0,
+        Open::Load => 1,
+        Open::Replacement => 2,
+    }
+}
+
+// The record's fields in their order, as a line's end.
+fn tell_record(record: Record) {
+    let open = record.open;
+    say(b" |");
+    say_next(bit(record.held));
+    say_next(open_number(open));
+    say_next(record.nodes as u64);
+    say_next(record.point as u64);
+    say_next(record.part as u64);
+    say_next(record.rank as u64);
+    say_next(record.round);
+    say_next(record.circles);
+    say_next(record.evaluations);
+    say(b"\n");
+}
+
+// A load or a replacement, by its name: the record that it leaves goes on.
+pub fn tell_begun(name: &[u8], begun: Begun) -> Record {
+    let verdict = begun.verdict;
+    let next = begun.record;
+    say(name);
+    match verdict {
+        Verdict::Sound => say(b"opened"),
+        Verdict::Refused(r) => tell_refusal(r),
+    }
+    tell_record(next);
+    next
+}
+
+pub fn tell_stepped(stepped: Stepped) -> Record {
+    let answer = stepped.answer;
+    let next = stepped.record;
+    say(b"step: ");
     match answer {
         Answer::Round {
             least,
@@ -79,52 +115,41 @@ pub fn tell_answer(answer: Answer) {
         }
         Answer::Refused(r) => tell_refusal(r),
     }
+    tell_record(next);
+    next
 }
 
-pub fn tell_run(answer: Run) {
+// A run, by its name and its budget.
+pub fn tell_advanced(name: &[u8], budget: u64, advanced: Advanced) -> Record {
+    let answer = advanced.answer;
+    let next = advanced.record;
+    say_count(name, budget);
     match answer {
-        Run::Paused { rounds } => say_count(b"paused, rounds ", rounds),
+        Run::Paused { rounds } => say_count(b": paused, rounds ", rounds),
         Run::Finished {
             rounds,
             circles,
             evaluations,
             changed,
         } => {
-            say_count(b"finished, rounds ", rounds);
+            say_count(b": finished, rounds ", rounds);
             tell_done(circles, evaluations, changed);
         }
-        Run::Refused(r) => tell_refusal(r),
+        Run::Refused(r) => {
+            say(b": ");
+            tell_refusal(r);
+        }
     }
+    tell_record(next);
+    next
 }
 
-pub fn tell_reading(reading: Reading) {
+pub fn tell_reading(instance: usize, reading: Reading) {
+    say_count(b"read ", instance as u64);
+    say(b": ");
     match reading {
         Reading::Set(set) => say_set(b"", set),
         Reading::Refused(r) => tell_refusal(r),
     }
-    say(b"\n");
-}
-
-fn open_number(open: Open) -> u64 {
-    match open {
-        Open::Nothing => 0,
-        Open::Load => 1,
-        Open::Replacement => 2,
-    }
-}
-
-// The record's fields in their order, as a line's end.
-pub fn tell_record(record: Record) {
-    let open = record.open;
-    say(b" |");
-    say_next(bit(record.held));
-    say_next(open_number(open));
-    say_next(record.nodes as u64);
-    say_next(record.point as u64);
-    say_next(record.part as u64);
-    say_next(record.rank as u64);
-    say_next(record.round);
-    say_next(record.circles);
-    say_next(record.evaluations);
     say(b"\n");
 }
