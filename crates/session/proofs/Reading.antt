@@ -70,18 +70,18 @@ words-stored t Ended w c h k l = h
 -- ---- a table that was read to its end
 
 -- a frame that stands in a text has fields of their widths
-frame-small : {s : List ℕ} {place line type n : ℕ} {f : Frame} → IsFrame s place f type n → Bounded f
-frame-small {s} {place} {line} {type} {n} {f} i =
-    let e = frame-exactly s place line (record { frame = f; place = place + (n + 1); line = lineAfter line }) .1 (frame i) in
-    subst Bounded (sym (ap (λ (a : Step). a .frame) e)) (bounded s place line)
+frame-small : {s : List ℕ} {place type n : ℕ} {f : Frame} → IsFrame s place f type n → Bounded f
+frame-small {s} {place} {type} {n} {f} i =
+    let e = frame-exactly s place 1 (record { frame = f; place = place + (n + 1); line = lineAfter 1 }) .1 (frame i) in
+    subst Bounded (sym (ap (λ (a : Step). a .frame) e)) (bounded s place 1)
 
 zeros : (n : ℕ) → Words (replicate n 0)
 zeros n i = rw (getD-zeros n i) (lit< tt)
 
 words-to : {s t : List ℕ} {place line at l : ℕ} {x : Expected} → ReadTo s place line t x at l → Words t
 words-to begin = zeros 2657
-words-to (next {t} {x} {l = l} {f = f} c i none) =
-    let b = frame-small {line = l} i in words-stored t x (wordOf f) (constantOf f) (words-to c) (word-small f b) (constant-small f b)
+words-to (next {t} {x} {f = f} c i none) =
+    let b = frame-small i in words-stored t x (wordOf f) (constantOf f) (words-to c) (word-small f b) (constant-small f b)
 
 pub record TableKept (t : List ℕ) : Type 0 where
   pub words : Words t
