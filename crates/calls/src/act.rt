@@ -1,12 +1,10 @@
 // A tape's calls, one after the other over the same record and memory.
 use crate::each::load;
-use crate::each::load_short;
 use crate::each::read;
 use crate::each::replace;
 use crate::each::run;
 use crate::each::run_record;
 use crate::each::step;
-use crate::mark::mark_of;
 use crate::mark::tell_memory;
 use crate::reading::read_day;
 use crate::tape::Call;
@@ -16,12 +14,6 @@ use crate::tape::Work;
 use crate::tape::call_of;
 use crate::tell::say;
 use update::Record;
-
-// The record between two calls, and the mark of what was lent when it was looked at last.
-struct State {
-    record: Record,
-    mark: u64,
-}
 
 // Some of the nodes; all of them where there aren't as many.
 fn nodes_of<'a>(nodes: &'a [u8], from: usize, to: usize) -> &'a [u8] {
@@ -66,7 +58,10 @@ fn change(
             let own = owns_of(owns, from, upto);
             load(table, r, tree, own, held, held_owns, sets, before)
         }
-        Change::Short => load_short(table, r, nodes, owns, held, held_owns, sets, before),
+        Change::Short => {
+            let mut few = [0u64; 4095];
+            load(table, r, nodes, owns, held, held_owns, &mut few, before)
+        }
         Change::Replace { point, from, to } => {
             let part = nodes_of(nodes, from, to);
             let own = owns_of(owns, from, to);
@@ -91,33 +86,36 @@ fn work<'a>(
     }
 }
 
-fn look(
-    table: &[u64; 2657],
-    state: State,
-    look: Look,
-    held: &[u8; 512],
-    held_owns: &[u64; 512],
-    sets: &[u64; 4096],
-    before: &[u64; 4096],
-) -> u64 {
-    let r = state.record;
-    match look {
-        Look::Read(instance) => read(table, r, held, held_owns, sets, before, instance),
-        Look::Day => read_day(table, r, held, held_owns, sets, before),
-        Look::Memory => return tell_memory(state.mark, held, held_owns, sets, before),
-    }
-    state.mark
-}
-
 fn beyond() -> Record {
     let mut r = Record::empty();
     r.nodes = 513;
     r
 }
 
+fn look(
+    table: &[u64; 2657],
+    r: Record,
+    look: Look,
+    held: &[u8; 512],
+    held_owns: &[u64; 512],
+    sets: &[u64; 4096],
+    before: &[u64; 4096],
+) -> Record {
+    match look {
+        Look::Read(instance) => read(table, r, held, held_owns, sets, before, instance),
+        Look::Day => read_day(table, r, held, held_owns, sets, before),
+        Look::Memory => tell_memory(held, held_owns, sets, before),
+        Look::Empty => return Record::empty(),
+        Look::Beyond => return beyond(),
+        Look::Line => say(b"\n"),
+    }
+    r
+}
+
+// A call, and the record that it leaves.
 fn act(
     table: [u64; 2657],
-    state: State,
+    r: Record,
     call: Call,
     nodes: &[u8],
     owns: &[u64],
@@ -125,31 +123,12 @@ fn act(
     held_owns: &mut [u64; 512],
     sets: &mut [u64; 4096],
     before: &mut [u64; 4096],
-) -> State {
+) -> Record {
     let t = &table;
-    let mut r = state.record;
-    let mut mark = state.mark;
     match call {
-        Call::Change(c) => {
-            r = change(t, r, c, nodes, owns, held, held_owns, sets, before);
-        }
-        Call::Work(w) => {
-            r = work(t, r, w, &*held, &*held_owns, sets, &*before);
-        }
-        Call::Look(l) => {
-            mark = look(t, state, l, &*held, &*held_owns, &*sets, &*before);
-        }
-        Call::Empty => {
-            r = Record::empty();
-        }
-        Call::Beyond => {
-            r = beyond();
-        }
-        Call::Pause => say(b"\n"),
-    }
-    State {
-        record: r,
-        mark: mark,
+        Call::Change(c) => change(t, r, c, nodes, owns, held, held_owns, sets, before),
+        Call::Work(w) => work(t, r, w, &*held, &*held_owns, sets, &*before),
+        Call::Look(l) => look(t, r, l, &*held, &*held_owns, &*sets, &*before),
     }
 }
 
@@ -165,16 +144,11 @@ pub fn perform(
     sets: &mut [u64; 4096],
     before: &mut [u64; 4096],
 ) {
-    let empty = Record::empty();
-    let mark = mark_of(&*held, &*held_owns, &*sets, &*before);
-    let mut s = State {
-        record: empty,
-        mark: mark,
-    };
+    let mut r = Record::empty();
     let mut i: usize = 0;
     while i < tape.len() {
         let c = call_of(tape[i], count, point);
         i += 1;
-        s = act(table, s, c, nodes, owns, held, held_owns, sets, before);
+        r = act(table, r, c, nodes, owns, held, held_owns, sets, before);
     }
 }

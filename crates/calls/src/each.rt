@@ -27,29 +27,10 @@ pub fn load(
     owns: &[u64],
     held: &mut [u8; 512],
     held_owns: &mut [u64; 512],
-    sets: &mut [u64; 4096],
-    before: &mut [u64; 4096],
-) -> Record {
-    let begun = engine::load(table, record, nodes, owns, held, held_owns, sets, before);
-    tell_begun(b"load: ", begun)
-}
-
-// A load with a set too few lent.
-pub fn load_short(
-    table: &[u64; 2657],
-    record: Record,
-    nodes: &[u8],
-    owns: &[u64],
-    held: &mut [u8; 512],
-    held_owns: &mut [u64; 512],
     sets: &mut [u64],
     before: &mut [u64; 4096],
 ) -> Record {
-    if sets.len() == 0 {
-        return record;
-    }
-    let few = &mut sets[1..];
-    let begun = engine::load(table, record, nodes, owns, held, held_owns, few, before);
+    let begun = engine::load(table, record, nodes, owns, held, held_owns, sets, before);
     tell_begun(b"load: ", begun)
 }
 

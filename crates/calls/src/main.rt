@@ -14,7 +14,6 @@ use planting::read_tree;
 use tape::ALL;
 use tape::LEAF;
 use tape::NONE;
-use tape::TWO;
 use tell::say;
 use texts::ReadTable;
 use texts::read_table;
@@ -31,7 +30,7 @@ fn call_day(table: [u64; 2657], nodes: &[u8], owns: &[u64], count: usize, point:
     let mut before = [DUST; 4096];
     perform(
         [0u64; 2657],
-        b"lps1vr",
+        b"k lps1vr",
         nodes,
         owns,
         count,
@@ -43,7 +42,7 @@ fn call_day(table: [u64; 2657], nodes: &[u8], owns: &[u64], count: usize, point:
     );
     perform(
         table,
-        b" ps1vr hfbm olps1vrn k lk lrpk 0s1ve eusk a gwxtk pk sss11e k a",
+        b" ps1vr hfbm olps1vrnk lk lrpk 0s1vek eusk a gwxtk pk sss11ek a",
         nodes,
         owns,
         count,
@@ -71,8 +70,6 @@ fn tell_text(text: &[u8], point: usize, own: u64) {
         return;
     }
     nodes[NONE] = 3;
-    nodes[TWO] = 1;
-    nodes[TWO + 1] = 2;
     nodes[LEAF] = nodes[point];
     owns[LEAF] = own;
     call_day(table, &nodes, &owns, count, point);

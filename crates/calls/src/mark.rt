@@ -1,11 +1,8 @@
-// All that is lent as one number, so that a line shows whether a call has changed any of it.
+// All that is lent as one number, so that two lines show whether the calls between them have changed any of it.
 use crate::tell::say;
 use crate::tell::say_set;
+use crate::tell::wide;
 use std::num::wrapping_add_u64;
-
-fn wide(x: u8) -> u64 {
-    x as u64
-}
 
 // A row's mark before its first word.
 pub const FIRST: u64 = 1;
@@ -35,31 +32,13 @@ fn mix_words(mark: u64, words: &[u64]) -> u64 {
     mixed
 }
 
-// The mark of what is lent.
-pub fn mark_of(
-    held: &[u8; 512],
-    held_owns: &[u64; 512],
-    sets: &[u64; 4096],
-    before: &[u64; 4096],
-) -> u64 {
-    let nodes = mix_words(mix_bytes(FIRST, held), held_owns);
-    mix_words(mix_words(nodes, sets), before)
-}
-
-// The mark of what is lent, and whether it is the one that it was.
 pub fn tell_memory(
-    was: u64,
     held: &[u8; 512],
     held_owns: &[u64; 512],
     sets: &[u64; 4096],
     before: &[u64; 4096],
-) -> u64 {
-    let mark = mark_of(held, held_owns, sets, before);
-    say_set(b"memory ", mark);
-    if mark == was {
-        say(b", as it was\n");
-    } else {
-        say(b", changed\n");
-    }
-    mark
+) {
+    let nodes = mix_words(mix_bytes(FIRST, held), held_owns);
+    say_set(b"memory ", mix_words(mix_words(nodes, sets), before));
+    say(b"\n");
 }

@@ -3,29 +3,19 @@ use crate::each::read;
 use crate::mark::FIRST;
 use crate::mark::mix;
 use crate::tell::say;
-use crate::tell::say_count;
 use crate::tell::say_set;
-use std::num::wrapping_add_u64;
 use update::Reading;
 use update::Record;
 
-// How many sets were read, and all of them as one number.
-struct Tally {
-    count: u64,
-    mark: u64,
-}
-
-fn tallied(tally: Tally, reading: Reading) -> Tally {
+// The set read; what is refused counts as no set could.
+fn set_of(reading: Reading) -> u64 {
     match reading {
-        Reading::Set(set) => Tally {
-            count: wrapping_add_u64(tally.count, 1),
-            mark: mix(tally.mark, set),
-        },
-        Reading::Refused(_) => tally,
+        Reading::Set(set) => set,
+        Reading::Refused(_) => 0xffff_ffff_ffff_ffff,
     }
 }
 
-// Each instance there can be.
+// Each instance there can be, as one number.
 fn read_all(
     table: &[u64; 2657],
     record: Record,
@@ -33,18 +23,15 @@ fn read_all(
     held_owns: &[u64; 512],
     sets: &[u64; 4096],
     before: &[u64; 4096],
-) -> Tally {
-    let mut tally = Tally {
-        count: 0,
-        mark: FIRST,
-    };
+) -> u64 {
+    let mut mark = FIRST;
     let mut i: usize = 0;
     while i < 4096 {
         let reading = engine::read(table, record, held, held_owns, sets, before, i);
-        tally = tallied(tally, reading);
+        mark = mix(mark, set_of(reading));
         i += 1;
     }
-    tally
+    mark
 }
 
 // The five sets of session A, which both days declare; one that only the tree of 512 nodes has, one that none has, and one past the last; and then all.
@@ -64,8 +51,7 @@ pub fn read_day(
     read(table, record, held, held_owns, sets, before, 4095);
     read(table, record, held, held_owns, sets, before, 4);
     read(table, record, held, held_owns, sets, before, 4096);
-    let tally = read_all(table, record, held, held_owns, sets, before);
-    say_count(b"read all: sets ", tally.count);
-    say_set(b", ", tally.mark);
+    let all = read_all(table, record, held, held_owns, sets, before);
+    say_set(b"read all: ", all);
     say(b"\n");
 }

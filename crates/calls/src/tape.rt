@@ -1,7 +1,7 @@
 // The calls of a day as a tape, a letter each.
 use std::num::wrapping_sub_usize;
 
-// What may change the held tree: a load of some of the day's nodes with as many of its own sets, or one fewer; a load with a set too few lent; a replacement.
+// What may change the held tree: a load of some of the day's nodes and own sets; a load with a set too few lent; a replacement by some of the nodes.
 pub enum Change {
     Load {
         from: usize,
@@ -23,37 +23,31 @@ pub enum Work {
     RunRecord(u64),
 }
 
-// What only looks: at an instance, at those of a day, at all that is lent.
+// What only looks, at an instance, at those of a day, at all that is lent; or goes on with an empty record, with one beyond its limits, or with a new line.
 pub enum Look {
     Read(usize),
     Day,
     Memory,
+    Empty,
+    Beyond,
+    Line,
 }
 
 pub enum Call {
     Change(Change),
     Work(Work),
     Look(Look),
-    // from here on with another record: an empty one, or one beyond its limits
-    Empty,
-    Beyond,
-    // a line between calls
-    Pause,
 }
 
 // More rounds than an update of these days takes.
 const ENOUGH: u64 = 1_000_000;
 
-// Behind a day's nodes: a production that no table here has, the root's, two that are no part together, and the leaf with its other own set.
+// Behind the nodes of a day: a production that no table here has, and the leaf with its other own set.
 pub const NONE: usize = 512;
 
-pub const ROOT: usize = 513;
+pub const LEAF: usize = 513;
 
-pub const TWO: usize = 514;
-
-pub const LEAF: usize = 516;
-
-pub const ALL: usize = 517;
+pub const ALL: usize = 514;
 
 fn load_of(from: usize, to: usize, owns: usize) -> Call {
     Call::Change(Change::Load {
@@ -75,15 +69,15 @@ fn change_of(letter: u8, nodes: usize, point: usize) -> Call {
     match letter {
         b'l' => load_of(0, nodes, nodes),
         b'f' => load_of(0, nodes, wrapping_sub_usize(nodes, 1)),
-        b'b' => load_of(NONE, ROOT, ROOT),
-        b'm' => load_of(0, ROOT, ROOT),
+        b'b' => load_of(NONE, LEAF, LEAF),
+        b'm' => load_of(0, LEAF, LEAF),
         b'h' => Call::Change(Change::Short),
         b'p' => replace_of(point, LEAF, ALL),
         b'g' => replace_of(nodes, LEAF, ALL),
-        b'w' => replace_of(point, ROOT, TWO),
-        b'x' => replace_of(point, NONE, ROOT),
-        b't' => replace_of(point, TWO, LEAF),
-        _ => Call::Pause,
+        b'w' => replace_of(point, 0, 1),
+        b'x' => replace_of(point, NONE, LEAF),
+        b't' => replace_of(point, 510, NONE),
+        _ => Call::Look(Look::Line),
     }
 }
 
@@ -91,7 +85,7 @@ fn change_of(letter: u8, nodes: usize, point: usize) -> Call {
 // `l` loads the tree, `f` with an own set too few, `b` one of a production beyond the table's, `m` one of 513 nodes, `h` with a set too few lent;
 // `p` replaces the leaf, `g` behind the last node, `w` by a part of another symbol, `x` by one of a production beyond the table's, `t` by one of two nodes;
 // `s` steps, `0`, `1` and `e` run with budgets of none, one and enough, `u` and `v` run by value with none and one;
-// `r` reads the first set, `a` those of a day, `k` looks at all that is lent; `n` and `o` take an empty record, and one beyond its limits.
+// `r` reads the first set, `a` those of a day, `k` looks at all that is lent; `n` takes an empty record, `o` one beyond its limits.
 pub fn call_of(letter: u8, nodes: usize, point: usize) -> Call {
     match letter {
         b's' => Call::Work(Work::Step),
@@ -103,8 +97,8 @@ pub fn call_of(letter: u8, nodes: usize, point: usize) -> Call {
         b'r' => Call::Look(Look::Read(0)),
         b'a' => Call::Look(Look::Day),
         b'k' => Call::Look(Look::Memory),
-        b'n' => Call::Empty,
-        b'o' => Call::Beyond,
+        b'n' => Call::Look(Look::Empty),
+        b'o' => Call::Look(Look::Beyond),
         _ => change_of(letter, nodes, point),
     }
 }

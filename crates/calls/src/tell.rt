@@ -9,7 +9,7 @@ use update::Reading;
 use update::Record;
 use update::Run;
 
-fn wide(x: u8) -> u64 {
+pub fn wide(x: u8) -> u64 {
     x as u64
 }
 

@@ -1,18 +1,15 @@
--- "For every input, the statement of each public call determines the answer and the final contents of the record and all buffers, refused calls too;
--- that no second answer fits is shown". Behind each `Only` stands the relation that the call's contract cites, by its name: what fits is what it lets the call answer and leave.
--- Assumes nothing.
-use mathlib.Core.Path.{_≡_}
+-- Of all that a call could answer and leave, refused calls too, no two fit its statement. Behind each `Only` stands the relation that the call's contract cites, by its
+-- name. Assumes nothing.
 use mathlib.Core.List.{List}
 use Prim.Native.Nat.{ℕ}
-use Rattle.refusal.specs.Numbers.{verdictOf, NumberSays}
+use Rattle.refusal.specs.Numbers.{NumberSays}
 use Rattle.refusal.specs.Only.{Only, After}
 use Rattle.refusal.specs.declared.Refusal.{Refusal}
-use Rattle.refusal.specs.declared.Verdict.{Verdict}
 use Rattle.sets.specs.declared.Equation.{Equation}
 use Rattle.sets.specs.Members.{MembersSay, CountSays}
 use Rattle.sets.specs.Operations.{ValueSays}
 use Rattle.table.specs.Judge.{JudgeTableSays}
-use Rattle.tree.specs.Refusals.{treeRefusal}
+use Rattle.tree.specs.Refusals.{JudgeTreeSays}
 use Rattle.update.specs.declared.Record.{Record}
 use Rattle.update.specs.Memories.{Memory}
 use Rattle.update.specs.Records.{EmptySays}
@@ -29,7 +26,7 @@ pub record AnswersOne : Type 0 where
   pub count : (s : ℕ) → Only (CountSays s)
   pub value : (e : Equation) (own a b : ℕ) → Only (ValueSays e own a b)
   pub judge-table : (t : List ℕ) → Only (JudgeTableSays t)
-  pub judge-tree : (t ns owns : List ℕ) → Only (λ (a : Verdict). verdictOf a ≡ treeRefusal t ns owns)
+  pub judge-tree : (t ns owns : List ℕ) → Only (JudgeTreeSays t ns owns)
   pub empty : Only EmptySays
 
 -- ---- the engine's calls, of any table, memory and record: answer, record and what is found in the buffers that the call may write

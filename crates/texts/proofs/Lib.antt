@@ -6,6 +6,7 @@ pub mod Sofar
 pub mod Readings
 pub mod Passing
 pub mod Unique
+pub mod Refusing
 pub mod Kept
 pub mod Tables
 pub mod Walked

@@ -6,10 +6,10 @@ use Rattle.calls.proofs.act.perform.Statement.{statement}
 use Rattle.calls.proofs.act.perform.Tie as tie
 
 abbrev Inv-loop : tie.InvT-loop
-Inv-loop table tape nodes owns count point held₀ held-owns₀ sets₀ before₀ mark s₀ i₀ held held-owns sets before s i = Unit {0}
+Inv-loop table tape nodes owns count point held₀ held-owns₀ sets₀ before₀ r₀ i₀ held held-owns sets before r i = Unit {0}
 
 abbrev μ-loop : tie.MeasureT-loop
-μ-loop table tape nodes owns count point held₀ held-owns₀ sets₀ before₀ mark s₀ i₀ held held-owns sets before s i = length tape - i
+μ-loop table tape nodes owns count point held₀ held-owns₀ sets₀ before₀ r₀ i₀ held held-owns sets before r i = length tape - i
 
 pub perform-spec : {M : Type 1} → statement M
 perform-spec =
@@ -17,7 +17,6 @@ perform-spec =
     (tie.spec
     Inv-loop
     μ-loop
-    (λ c κs. tt)
     (λ c κs. tt)
     (λ c. tt)
     (λ c. omega arith)

@@ -1,11 +1,11 @@
 -- The arm that is taken tells what is waited for. Assumes nothing.
 use mathlib.Core.Path.{_≡_}
 use borrow.Author.Needs.{needs}
-use Rattle.desk.proofs.ending.is_silent.Statement.{statement}
-use Rattle.desk.proofs.ending.is_silent.Tie as tie
+use Rattle.desk.proofs.ending.is_working.Statement.{statement}
+use Rattle.desk.proofs.ending.is_working.Tie as tie
 
-pub is-silent-spec : {M : Type 1} → statement M
-is-silent-spec =
+pub is-working-spec : {M : Type 1} → statement M
+is-working-spec =
     tie.close
     (tie.spec
     (λ c. search needs)
