@@ -114,7 +114,7 @@ module _ (s : List ℕ) (place line : ℕ) where
   by-line Bad e = by13 (all-lines-exactly s place .bad .0 e)
   by-line End e = over (all-lines-exactly s place .over .0 e)
 
-  pub finds : Finds s place line (frameAt s place line)
+  finds : Finds s place line (frameAt s place line)
   unfolding frameAt
   finds = by-line (lineAt s place) refl
 
@@ -130,7 +130,7 @@ module _ (s : List ℕ) (place line : ℕ) where
   frame-made n g (found h other e v d) w = d ∙ right-frame v ∙ ap (frameBy s place) (sym e ∙ w .begins) ∙ sym (right-frame (w .fields))
   frame-made n g (wrong h d) {f} {type} w = absurd (h f type (w .begins) (w .fields))
 
-  pub finds-one : {a : Step} → Finds s place line a → a ≡ frameAt s place line
+  finds-one : {a : Step} → Finds s place line a → a ≡ frameAt s place line
   finds-one (over h) = sym (step-is End (all-lines-exactly s place .over .1 h))
   finds-one (by13 w) = sym (step-is Bad (all-lines-exactly s place .bad .1 w))
   finds-one (by14 {n} w) = ap (behind n) (sym (no-frame (frameOf s place n line) (made s place n line))) ∙ sym (step-is (Digits n) (all-lines-exactly s place .line n .1 (w .line)))
