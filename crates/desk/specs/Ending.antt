@@ -46,14 +46,6 @@ inside (Nodes order count taken command) = true
 inside (Working turns) = false
 inside Stopped = false
 
--- no line is waited for
-abbrev pub silent : Mode → Bool
-silent (Table x) = false
-silent Command = false
-silent (Nodes order count taken command) = false
-silent (Working turns) = true
-silent Stopped = true
-
 -- ---- exactly when
 
 -- an update is at work
