@@ -19,7 +19,7 @@ ghost use mathlib.Core.Path.{_≡_};
 ghost use Prim.Native.Nat.{_<_, _≤_};
 ghost use Rattle.refusal.specs.Numbers.{verdictOf};
 ghost use Rattle.table.specs.Words.{symbolCount, childCount};
-ghost use Rattle.table.specs.Judge.{header, symbol, production, equation, outside, symbolWrong, misnamed, refusalAt, judgeTable};
+ghost use Rattle.table.specs.Judge.{header, symbol, production, equation, outside, symbolWrong, misnamed, refusalAt, JudgeTableSays};
 ghost use Rattle.table.specs.Parts.{symbolsOf, positionOf, equationsOf, partNumber, productionsOf};
 ghost use Rattle.table.specs.Shape.{Symbols, Shaped};
 
@@ -232,7 +232,7 @@ fn judge_productions(table: &[u64; 2657]) -> Verdict
 
 // The table: its frames in order.
 pub fn judge_table(table: &[u64; 2657]) -> Verdict
-    ensures { λ r. ⌜ verdictOf r ≡ judgeTable (now (table .entry)) ⌝ }
+    ensures { λ r. ⌜ JudgeTableSays (now (table .entry)) r ⌝ }
 {
     match judge_header(table) {
         Verdict::Sound => match judge_symbols(table) {

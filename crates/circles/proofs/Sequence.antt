@@ -53,7 +53,7 @@ rising-less : {k m : ℕ} {l : List ℕ} → k ≤ m → Rising m l → Rising k
 rising-less h end = end
 rising-less {k} h (step {x} g r) = step {k = k} {x = x} (omega arith) r
 
-rising-keep : (p : ℕ → Bool) (k n : ℕ) → Rising k (keep p (upFrom k n))
+pub rising-keep : (p : ℕ → Bool) (k n : ℕ) → Rising k (keep p (upFrom k n))
 rising-keep p k zero = subst (λ (u : List ℕ). Rising k u) (sym (ap (keep p) (up-none k) ∙ keep-none p)) end
 rising-keep p k (suc n) = go (p k) refl (rising-keep p (suc k) n)
   where

@@ -29,6 +29,10 @@ desk words window parts partOwns memory state =
 abbrev pub firstState : State
 firstState = record { mode = Table AtHeader; begun = 0; line = 1; «record» = emptyRecord }
 
+-- what `start` says
+abbrev pub StartSays : State → Type 0
+StartSays a = a ≡ firstState
+
 -- the table's words, and the bytes of the begun line
 abbrev pub tableOf : Desk → List ℕ
 tableOf d = take 2657 (d .words)

@@ -18,3 +18,15 @@ pub record Gathers (piece : List ℕ) (from : ℕ) (window : List ℕ) (begun n 
   pub moved : whole ≡ true → (from < place) × (place ≤ length piece)
   pub waits : whole ≡ false → Begun (take n window′)
   pub used : whole ≡ false → place ≡ from + (length piece - from)
+
+-- there are always such bytes, and a window that is as long as it was
+pub record Gathering (piece : List ℕ) (from : ℕ) (window : List ℕ) (begun : ℕ) : Type 0 where
+  pub count : ℕ
+  pub place : ℕ
+  pub whole : Bool
+  pub then : List ℕ
+  pub gathers : Gathers piece from window begun count place whole then
+  pub size : length then ≡ length window
+
+abbrev pub AlwaysGathers : Type 0
+AlwaysGathers = (piece : List ℕ) (from : ℕ) (window : List ℕ) (begun : ℕ) → 29 ≤ length window → begun ≤ 28 → Begun (take begun window) → Gathering piece from window begun

@@ -15,8 +15,7 @@ pub use gathering::Gathered;
 pub use gathering::gather;
 use owing::Mode;
 use update::Record;
-ghost use mathlib.Core.Path.{_≡_};
-ghost use Rattle.desk.specs.Desk.{firstState};
+ghost use Rattle.desk.specs.Desk.{StartSays};
 
 // Between two pieces: the mode, how many bytes of a line have come, the number of that line, and the update record.
 pub struct State {
@@ -28,7 +27,7 @@ pub struct State {
 
 // A session that has read nothing.
 pub fn start() -> State
-    ensures { λ r. ⌜ r ≡ firstState ⌝ }
+    ensures { λ r. ⌜ StartSays r ⌝ }
 {
     let record = Record::empty();
     State {

@@ -1,5 +1,5 @@
--- No second answer or buffer fits the statements of reading a tree and of a dump. Assumes nothing.
-use mathlib.Core.Path.{_≡_, refl, ap, sym, _∙_}
+-- What an answer says leads back to the answer, so no second answer or buffer fits what a dump says. Assumes nothing.
+use mathlib.Core.Path.{_≡_, refl, ap}
 use mathlib.Core.List.{List}
 use Prim.Native.Nat.{ℕ}
 use Rattle.refusal.specs.Only.{After}
@@ -9,7 +9,7 @@ use Rattle.update.specs.Calls.{Said, refused, said}
 use Rattle.frames.specs.declared.Written.{Written}
 use Rattle.frames.specs.declared.Written.the-variants.{Length, Refused}
 use Rattle.dump.specs.Calls.{writtenSays, Wrote, wrote, dumpCall}
-use Rattle.dump.specs.Unique.{TreesOne}
+use Rattle.dump.specs.Unique.{DumpsOne}
 
 abbrev writtenBack : Said ℕ → Written
 writtenBack (said n) = Length n
@@ -28,10 +28,5 @@ wrote-back x = ap (λ w. record { answer = w; found = x .found }) (written-back 
 abbrev saying : After Written (List ℕ) → Wrote
 saying x = wrote (x .answer) (x .found)
 
-pub trees-one : TreesOne
-trees-one = record {
-  read-tree = λ t s place line productions owns. record {
-    one = λ a b p q. (λ i. record { answer = (p .0 ∙ sym (q .0)) i; found = record { answer = (p .1 .0 ∙ sym (q .1 .0)) i; found = (p .1 .1 ∙ sym (q .1 .1)) i } });
-  };
-  dump = λ t m r text. only-said saying wroteBack wrote-back (dumpCall t m r text);
-}
+pub dumps-one : DumpsOne
+dumps-one t m r buffer = only-said saying wroteBack wrote-back (dumpCall t m r buffer)

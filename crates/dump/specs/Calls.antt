@@ -1,4 +1,5 @@
 -- The dump as a call: for any table, record, memory and text buffer what it answers and what it leaves in the buffer; it only reads the rest. Assumes nothing.
+use mathlib.Core.Path.{_≡_}
 use mathlib.Core.List.{List, map}
 use Prim.Native.Nat.{ℕ, zero, suc}
 use lib.ListN.{length}
@@ -39,3 +40,7 @@ unlessWritten (suc n) buffer text = record { answer = refused (suc n); buffer = 
 -- "dump the same without 12, with 15 for its text last"
 unfoldable pub dumpCall : List ℕ → Memory → Record → List ℕ → Wrote
 dumpCall t m r buffer = unlessWritten (dumpRefusal t m r (length buffer) (length (dumpedText t m r))) buffer (dumpedText t m r)
+
+-- what `dump` says: the answer, and what the text's buffer holds then
+abbrev pub DumpSays : List ℕ → Memory → Record → List ℕ → Written → List ℕ → Type 0
+DumpSays t m r buffer a buffer′ = wrote a buffer′ ≡ dumpCall t m r buffer

@@ -12,7 +12,7 @@ ghost use lib.ListN.{length, take};
 ghost use lib.Seq.{sets as setsAt};
 ghost use Rattle.judging.specs.Lent.{lent};
 ghost use Rattle.dump.specs.Telling.{toldFrom, slotText, Tellable};
-ghost use Rattle.dump.specs.Calls.{wrote, dumpCall};
+ghost use Rattle.dump.specs.Calls.{DumpSays};
 
 // Writes a slot's line where it is declared, and says where the next line goes.
 fn put_slot(
@@ -84,7 +84,7 @@ pub fn dump(
     before: &[u64],
     text: &mut [u8],
 ) -> Written
-    ensures { λ r. ⌜ wrote r (now (text .exit)) ≡ dumpCall (now (table .entry)) (lent (now (held .entry)) (now («held_owns» .entry)) (now (sets .entry)) (now (before .entry))) «record» (now (text .entry)) ⌝ }
+    ensures { λ r. ⌜ DumpSays (now (table .entry)) (lent (now (held .entry)) (now («held_owns» .entry)) (now (sets .entry)) (now (before .entry))) «record» (now (text .entry)) r (now (text .exit)) ⌝ }
 {
     match judge_look(table, record, held, held_owns, sets, before) {
         Verdict::Sound => {

@@ -16,7 +16,7 @@ use Rattle.wire.specs.ArrayLaws.{Alike}
 use Rattle.wire.proofs.Holding.{round-alike}
 use Rattle.update.specs.declared.Record.{Record}
 use Rattle.update.specs.Records.{isLoad, shut}
-use Rattle.update.specs.Steps.{sownOf, survives, changedOf, roundNumber, fromOf, toOf, closedOf, roundRecord, round, done as finished, roundMade, doneMade, dueFrom, stepOf, onward, runOf}
+use Rattle.update.specs.Steps.{sownOf, survives, changedOf, roundNumber, fromOf, toOf, closedOf, roundRecord, round, done as finished, roundMade, doneMade, dueFrom, stepOf, continued, runOf}
 
 any-alike : (C : List ℕ) (p q : ℕ → Bool) → ((x : ℕ) → member C x ≡ true → p x ≡ q x) → anyOf p C ≡ anyOf q C
 any-alike [] p q h = refl
@@ -90,4 +90,4 @@ module _ (S S′ : System) (k : Alike S S′) (R : List (List ℕ)) (inside : (i
   pub run-same : (before : List ℕ) (n : ℕ) (r : Record) (sets : List ℕ) → runOf S R before n r sets ≡ runOf S′ R before n r sets
   unfolding runOf
   run-same before zero r sets = refl
-  run-same before (suc n) r sets = λ j. onward (step-same r before sets j .outcome) (step-same r before sets j .next) (step-same r before sets j .sets) (λ q s. run-same before n q s j)
+  run-same before (suc n) r sets = λ j. continued (step-same r before sets j .outcome) (step-same r before sets j .next) (step-same r before sets j .sets) (λ q s. run-same before n q s j)

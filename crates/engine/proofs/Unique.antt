@@ -10,7 +10,6 @@ use Rattle.refusal.proofs.Distinct.{named, number-back}
 use Rattle.refusal.proofs.Fitting.{only-equal, only-said, only-verdict}
 use Rattle.sets.specs.Members.{membersOf, countOf}
 use Rattle.sets.specs.Operations.{valueOf}
-use Rattle.table.specs.Equations.{equationAt}
 use Rattle.table.specs.Judge.{judgeTable}
 use Rattle.tree.specs.Refusals.{treeRefusal}
 use Rattle.update.specs.declared.Record.{Record}
@@ -101,7 +100,6 @@ answers-one = record {
   count = λ s. only-equal (countOf s);
   value = λ e own a b. only-equal (valueOf (e .op) own a b);
   judge-table = λ t. only-verdict (judgeTable t);
-  equation-at = λ t rule. only-equal (equationAt t rule);
   judge-tree = λ t ns owns. only-verdict (treeRefusal t ns owns);
   empty = only-equal emptyRecord;
 }

@@ -1,52 +1,45 @@
--- "For every input, the statement of each public call determines the answer and the final contents of the record and all buffers, refused calls too;
--- that no second answer fits is shown". Behind each `Only` stands the call's contract as the code has it: what fits is what it lets the call answer and leave.
--- Assumes nothing.
-use mathlib.Core.Path.{_≡_}
+-- Of all that a call could answer and leave, refused calls too, no two fit its statement. Behind each `Only` stands the relation that the call's contract cites, by its
+-- name. Assumes nothing.
 use mathlib.Core.List.{List}
 use Prim.Native.Nat.{ℕ}
-use Rattle.refusal.specs.Numbers.{numberOf, verdictOf}
+use Rattle.refusal.specs.Numbers.{NumberSays}
 use Rattle.refusal.specs.Only.{Only, After}
 use Rattle.refusal.specs.declared.Refusal.{Refusal}
-use Rattle.refusal.specs.declared.Verdict.{Verdict}
 use Rattle.sets.specs.declared.Equation.{Equation}
-use Rattle.sets.specs.Members.{membersOf, countOf}
-use Rattle.sets.specs.Operations.{valueOf}
-use Rattle.table.specs.Equations.{equationAt}
-use Rattle.table.specs.Judge.{judgeTable}
-use Rattle.tree.specs.Refusals.{treeRefusal}
+use Rattle.sets.specs.Members.{MembersSay, CountSays}
+use Rattle.sets.specs.Operations.{ValueSays}
+use Rattle.table.specs.Judge.{JudgeTableSays}
+use Rattle.tree.specs.Refusals.{JudgeTreeSays}
 use Rattle.update.specs.declared.Record.{Record}
-use Rattle.update.specs.declared.Reading.{Reading}
 use Rattle.update.specs.Memories.{Memory}
-use Rattle.update.specs.Records.{emptyRecord}
-use Rattle.update.specs.Calls.{readingSays, loadCall, replaceCall, stepCall, readCall}
+use Rattle.update.specs.Records.{EmptySays}
 use Rattle.steps.specs.declared.step.Stepped.{Stepped}
 use Rattle.steps.specs.declared.run.Advanced.{Advanced}
 use Rattle.opens.specs.declared.Begun.{Begun}
-use Rattle.engine.specs.Lent.{lent, begun, stepped, RunLeaves}
+use Rattle.engine.specs.Lent.{lent, LoadLeaves, ReplaceLeaves, StepLeaves, RunLeaves, ReadSays}
 
 -- ---- the calls that leave nothing but their answer
 
 pub record AnswersOne : Type 0 where
-  pub number : (r : Refusal) → Only (λ (a : ℕ). a ≡ numberOf r)
-  pub members : (s : ℕ) → Only (λ (a : ℕ). a ≡ membersOf s)
-  pub count : (s : ℕ) → Only (λ (a : ℕ). a ≡ countOf s)
-  pub value : (e : Equation) (own a b : ℕ) → Only (λ (v : ℕ). v ≡ valueOf (e .op) own a b)
-  pub judge-table : (t : List ℕ) → Only (λ (a : Verdict). verdictOf a ≡ judgeTable t)
-  pub equation-at : (t : List ℕ) (rule : ℕ) → Only (λ (a : Equation). a ≡ equationAt t rule)
-  pub judge-tree : (t ns owns : List ℕ) → Only (λ (a : Verdict). verdictOf a ≡ treeRefusal t ns owns)
-  pub empty : Only (λ (a : Record). a ≡ emptyRecord)
+  pub number : (r : Refusal) → Only (NumberSays r)
+  pub members : (s : ℕ) → Only (MembersSay s)
+  pub count : (s : ℕ) → Only (CountSays s)
+  pub value : (e : Equation) (own a b : ℕ) → Only (ValueSays e own a b)
+  pub judge-table : (t : List ℕ) → Only (JudgeTableSays t)
+  pub judge-tree : (t ns owns : List ℕ) → Only (JudgeTreeSays t ns owns)
+  pub empty : Only EmptySays
 
 -- ---- the engine's calls, of any table, memory and record: answer, record and what is found in the buffers that the call may write
 
 -- `load` and `replace` may write all four (`Begun` is the answer with the record); `step` and `run` the sets (`Stepped` and `Advanced` likewise; a run over a
 -- lent record and one by value promise the same); `read` none
 pub record LeavesOne (t held owns sets before : List ℕ) (r : Record) : Type 0 where
-  pub load : (ns newOwns : List ℕ) → Only (λ (x : After Begun Memory). begun (x .answer) (x .found) ≡ loadCall t (lent held owns sets before) r ns newOwns)
+  pub load : (ns newOwns : List ℕ) → Only (λ (x : After Begun Memory). LoadLeaves t (lent held owns sets before) r ns newOwns (x .answer) (x .found))
   pub replace : (point : ℕ) (ns newOwns : List ℕ)
-      → Only (λ (x : After Begun Memory). begun (x .answer) (x .found) ≡ replaceCall t (lent held owns sets before) r point ns newOwns)
-  pub step : Only (λ (x : After Stepped (List ℕ)). stepped (x .answer .answer) (x .answer .«record») (lent held owns (x .found) before) ≡ stepCall t (lent held owns sets before) r)
+      → Only (λ (x : After Begun Memory). ReplaceLeaves t (lent held owns sets before) r point ns newOwns (x .answer) (x .found))
+  pub step : Only (λ (x : After Stepped (List ℕ)). StepLeaves t held owns sets before r (x .answer .answer) (x .answer .«record») (x .found))
   pub run : (budget : ℕ) → Only (λ (x : After Advanced (List ℕ)). RunLeaves t held owns sets before r budget (x .answer .answer) (x .answer .«record») (x .found))
-  pub read : (x : ℕ) → Only (λ (a : Reading). readingSays a ≡ readCall t (lent held owns sets before) r x)
+  pub read : (x : ℕ) → Only (ReadSays t (lent held owns sets before) r x)
 
 abbrev pub EveryLeavesOne : Type 0
 EveryLeavesOne = (t held owns sets before : List ℕ) (r : Record) → LeavesOne t held owns sets before r

@@ -5,9 +5,7 @@ use refusal::Refusal;
 use refusal::Verdict;
 use update::Reading;
 use update::Record;
-ghost use mathlib.Core.Path.{_≡_};
-ghost use Rattle.update.specs.Calls.{readingSays, readCall};
-ghost use Rattle.engine.specs.Lent.{lent};
+ghost use Rattle.engine.specs.Lent.{lent, ReadSays};
 
 // The set of a declared instance, with no update open; nothing is changed.
 pub fn read(
@@ -19,7 +17,7 @@ pub fn read(
     before: &[u64],
     instance: usize,
 ) -> Reading
-    ensures { λ r. ⌜ readingSays r ≡ readCall (now (table .entry)) (lent (now (held .entry)) (now («held_owns» .entry)) (now (sets .entry)) (now (before .entry))) «record» instance ⌝ }
+    ensures { λ r. ⌜ ReadSays (now (table .entry)) (lent (now (held .entry)) (now («held_owns» .entry)) (now (sets .entry)) (now (before .entry))) «record» instance r ⌝ }
 {
     match judge_look(table, record, held, held_owns, sets, before) {
         Verdict::Sound => {

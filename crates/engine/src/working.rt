@@ -11,10 +11,8 @@ use update::Answer;
 use update::Record;
 use update::Run;
 use wire::wire_tree;
-ghost use mathlib.Core.Path.{_≡_};
 ghost use Rattle.wire.specs.Turns.{Held};
-ghost use Rattle.update.specs.Calls.{stepCall};
-ghost use Rattle.engine.specs.Lent.{lent, stepped, RunLeaves};
+ghost use Rattle.engine.specs.Lent.{lent, StepLeaves, RunLeaves};
 ghost use Rattle.judging.specs.Order.{Going};
 ghost use Rattle.engine.specs.Prepared.{Scratch, Prepared};
 
@@ -51,7 +49,7 @@ fn step_going<'a>(
     before: &'a [u64],
 ) -> Stepped
     requires { ⌜ Going (now table) (lent (now held) (now «held_owns») (now sets) (now before)) «record» ⌝ }
-    ensures { λ r. ⌜ stepped (r .answer) (r .record) (lent (now (held .entry)) (now («held_owns» .entry)) (now (sets .exit)) (now (before .entry))) ≡ stepCall (now (table .entry)) (lent (now (held .entry)) (now («held_owns» .entry)) (now (sets .entry)) (now (before .entry))) «record» ⌝ }
+    ensures { λ r. ⌜ StepLeaves (now (table .entry)) (now (held .entry)) (now («held_owns» .entry)) (now (sets .entry)) (now (before .entry)) «record» (r .answer) (r .record) (now (sets .exit)) ⌝ }
 {
     let nodes = record.nodes;
     let mut a = [0u16; 4096];
@@ -103,7 +101,7 @@ pub fn step<'a>(
     sets: &mut [u64],
     before: &'a [u64],
 ) -> Stepped
-    ensures { λ r. ⌜ stepped (r .answer) (r .record) (lent (now (held .entry)) (now («held_owns» .entry)) (now (sets .exit)) (now (before .entry))) ≡ stepCall (now (table .entry)) (lent (now (held .entry)) (now («held_owns» .entry)) (now (sets .entry)) (now (before .entry))) «record» ⌝ }
+    ensures { λ r. ⌜ StepLeaves (now (table .entry)) (now (held .entry)) (now («held_owns» .entry)) (now (sets .entry)) (now (before .entry)) «record» (r .answer) (r .record) (now (sets .exit)) ⌝ }
 {
     match judge_step(table, record, held, held_owns, &*sets, before) {
         Verdict::Sound => step_going(table, record, held, held_owns, sets, before),

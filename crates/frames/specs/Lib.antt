@@ -3,4 +3,7 @@ pub mod Out
 pub mod Text
 pub mod Walk
 pub mod Moved
+pub mod Calls
+pub mod Exactly
 pub mod Laws
+pub mod Unique

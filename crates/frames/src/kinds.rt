@@ -8,7 +8,8 @@ use sets::Argument;
 ghost use mathlib.Core.Path.{_≡_};
 ghost use Prim.Native.Nat.{_+_, _<_, _^_};
 ghost use Rattle.lines.specs.Hex.{numAt};
-ghost use Rattle.frames.specs.Frames.{wrongLength, childAt, headerOf, symbolOf, productionOf, equationOf, nodeOf, loadOf, replaceOf, dumpOf, frameOf, frameAt, lineAfter};
+ghost use Rattle.frames.specs.Frames.{wrongLength, childAt, headerOf, symbolOf, productionOf, equationOf, nodeOf, loadOf, replaceOf, dumpOf, frameOf, lineAfter};
+ghost use Rattle.frames.specs.Calls.{FrameAtSays};
 
 fn byte(text: &[u8], place: usize) -> u8
     requires { ⌜ place + 2 < 2 ^ 64 ⌝ }
@@ -209,7 +210,7 @@ pub fn line_after(line: u32) -> u32
 
 // The frame at a place, and where the next one is. Refusal 13 comes before 14: only a line is looked into.
 pub fn frame_at(text: &[u8], place: usize, line: u32) -> Step
-    ensures { λ r. ⌜ r ≡ frameAt (now (text .entry)) place line ⌝ }
+    ensures { λ r. ⌜ FrameAtSays (now (text .entry)) place line r ⌝ }
 {
     let found = lines::line_at(text, place);
     match found {

@@ -12,9 +12,7 @@ pub use out::put_set;
 use refusal::Refusal;
 use sets::Argument;
 pub use walk::next_of;
-ghost use mathlib.Core.Path.{_≡_};
-ghost use Rattle.frames.specs.Frames.{frameAt};
-ghost use Rattle.frames.specs.Moved.{moved};
+ghost use Rattle.frames.specs.Calls.{FrameAtSays, ReaderAtSays, NextSays, AdvanceSays};
 
 // The symbols of up to four children, 0 where there is none.
 pub struct Children {
@@ -103,28 +101,28 @@ pub struct Reader<'a> {
 
 // A reader at a place of a text.
 pub fn reader_at<'a>(text: &'a [u8], place: usize, line: u32) -> Reader<'a>
-    ensures { λ r. ⌜ (r .text ≡ text .entry) × ((r .place ≡ place) × (r .line ≡ line)) ⌝ }
+    ensures { λ r. ⌜ ReaderAtSays (text .entry) place line r ⌝ }
 {
     Reader { text, place, line }
 }
 
 // The frame at the reader's place, and where the next one is.
 pub fn next<'a>(r: Reader<'a>) -> Step
-    ensures { λ s. ⌜ s ≡ frameAt (now (r .entry .text)) (r .entry .place) (r .entry .line) ⌝ }
+    ensures { λ s. ⌜ NextSays (r .entry) s ⌝ }
 {
     frame_at(r.text, r.place, r.line)
 }
 
 // The same with plain parameters, for every other caller.
 pub fn next_at(text: &[u8], place: usize, line: u32) -> Step
-    ensures { λ s. ⌜ s ≡ frameAt (now (text .entry)) place line ⌝ }
+    ensures { λ s. ⌜ FrameAtSays (now (text .entry)) place line s ⌝ }
 {
     next(reader_at(text, place, line))
 }
 
 // The reader is lent, and moves on.
 pub fn advance<'s, 'a>(r: &'s mut Reader<'a>) -> Frame
-    ensures { λ f. ⌜ (f ≡ frameAt (now (now (r .entry) .text)) (now (r .entry) .place) (now (r .entry) .line) .frame) × (now (r .exit) ≡ moved (now (r .entry))) ⌝ }
+    ensures { λ f. ⌜ AdvanceSays (now (r .entry)) f (now (r .exit)) ⌝ }
 {
     let s = frame_at(r.text, r.place, r.line);
     r.place = s.place;

@@ -19,7 +19,7 @@ use Rattle.texts.specs.Read.{wordsAfter, takenAt}
 use Rattle.frames.proofs.Expected as X
 use Rattle.frames.proofs.Frame as F
 use Rattle.session.specs.Session.{dumpTold}
-use Rattle.owing.specs.Hearing.{Heard, stopped, strange, waiting, called, ordered, commanded, modeOf, tabled, keptAt, noded, hearing}
+use Rattle.owing.specs.Hearing.{stopped, strange, waiting, called, ordered, commanded, modeOf, tabled, keptAt, noded, hearing}
 use Rattle.owing.specs.declared.Order.{Order}
 use Rattle.owing.specs.declared.Order.the-variants as order
 use Rattle.owing.specs.declared.Mode.{Mode}
@@ -44,9 +44,12 @@ module _ (taken x : ℕ) (xs : List ℕ) where
   same-room true = length-set xs taken x
   same-room false = refl
 
+  pub kept-long : length (keptAt taken x xs) ≡ length xs
+  kept-long = same-room (ltb taken 513)
+
   -- 513 have their place still
   pub kept-room : (ys : List ℕ) → ys ≡ keptAt taken x xs → 513 ≤ length xs → 513 ≤ length ys
-  kept-room ys e h = rw (e, same-room (ltb taken 513)) h
+  kept-room ys e h = rw (e, kept-long) h
 
 -- ---- a frame by its tag
 module _ (t ps os : List ℕ) (m : Memory) (r : Record) where

@@ -3,3 +3,4 @@ pub mod Rows
 pub mod Window
 pub mod Out
 pub mod Fields
+pub mod Exactly

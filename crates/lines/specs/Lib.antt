@@ -1,3 +1,4 @@
 pub mod Hex
 pub mod Text
 pub mod Laws
+pub mod Exactly

@@ -1,9 +1,13 @@
 -- What a load or a replacement leaves as one value: the contracts equate it with the call's definition. Assumes nothing.
+use mathlib.Core.Path.{_≡_}
+use mathlib.Core.List.{List}
+use Prim.Native.Nat.{ℕ}
 use Rattle.refusal.specs.Numbers.{numberOf}
 use Rattle.refusal.specs.declared.Verdict.{Verdict}
 use Rattle.refusal.specs.declared.Verdict.the-variants.{Sound, Refused}
+use Rattle.update.specs.declared.Record.{Record}
 use Rattle.update.specs.Memories.{Memory}
-use Rattle.update.specs.Calls.{Said, refused, said, Left, Opened, is-open}
+use Rattle.update.specs.Calls.{Said, refused, said, Left, Opened, is-open, loadCall, replaceCall}
 use Rattle.opens.specs.declared.Begun.{Begun}
 pub use Rattle.judging.specs.Lent.{lent}
 
@@ -15,3 +19,12 @@ openedSays (Refused r) = refused (numberOf r)
 -- a load or a replacement's answer and record, with the memory that it left
 abbrev pub begun : Begun → Memory → Left (Said Opened)
 begun b m = record { answer = openedSays (b .verdict); next = b .«record»; memory = m }
+
+-- what a load of the nodes ns and the own sets owns promises, over the table t, the memory m and the record r: its answer, its record and its memory together are
+-- the call's definition
+abbrev pub LoadLeaves : List ℕ → Memory → Record → List ℕ → List ℕ → Begun → Memory → Type 0
+LoadLeaves t m r ns owns answer m′ = begun answer m′ ≡ loadCall t m r ns owns
+
+-- and a replacement at a point
+abbrev pub ReplaceLeaves : List ℕ → Memory → Record → ℕ → List ℕ → List ℕ → Begun → Memory → Type 0
+ReplaceLeaves t m r point new newOwns answer m′ = begun answer m′ ≡ replaceCall t m r point new newOwns

@@ -15,8 +15,7 @@ ghost use mathlib.Core.Bool.{true, false};
 ghost use Prim.Native.Nat.{_<_};
 ghost use Rattle.update.specs.Records.{isOpen, opened};
 ghost use Rattle.update.specs.Refusals.{heldRefusal};
-ghost use Rattle.update.specs.Calls.{loadCall, replaceCall};
-ghost use Rattle.opens.specs.Lent.{lent, begun};
+ghost use Rattle.opens.specs.Lent.{lent, LoadLeaves, ReplaceLeaves};
 ghost use Rattle.judging.specs.Order.{Grounded, Holding};
 
 // What a load or a replacement answers, and the record that it leaves.
@@ -54,7 +53,7 @@ pub fn load_judged(
     before: &mut [u64],
 ) -> Begun
     requires { ⌜ Grounded (now table) (lent (now held) (now «held_owns») (now sets) (now before)) «record» ⌝ }
-    ensures { λ r. ⌜ begun r (lent (now (held .exit)) (now («held_owns» .exit)) (now (sets .exit)) (now (before .exit))) ≡ loadCall (now (table .entry)) (lent (now (held .entry)) (now («held_owns» .entry)) (now (sets .entry)) (now (before .entry))) «record» (now (productions .entry)) (now (owns .entry)) ⌝ }
+    ensures { λ r. ⌜ LoadLeaves (now (table .entry)) (lent (now (held .entry)) (now («held_owns» .entry)) (now (sets .entry)) (now (before .entry))) «record» (now (productions .entry)) (now (owns .entry)) r (lent (now (held .exit)) (now («held_owns» .exit)) (now (sets .exit)) (now (before .exit))) ⌝ }
 {
     match judge_load(table, record, productions, owns) {
         Verdict::Sound => {
@@ -84,7 +83,7 @@ pub fn load(
     sets: &mut [u64],
     before: &mut [u64],
 ) -> Begun
-    ensures { λ r. ⌜ begun r (lent (now (held .exit)) (now («held_owns» .exit)) (now (sets .exit)) (now (before .exit))) ≡ loadCall (now (table .entry)) (lent (now (held .entry)) (now («held_owns» .entry)) (now (sets .entry)) (now (before .entry))) «record» (now (productions .entry)) (now (owns .entry)) ⌝ }
+    ensures { λ r. ⌜ LoadLeaves (now (table .entry)) (lent (now (held .entry)) (now («held_owns» .entry)) (now (sets .entry)) (now (before .entry))) «record» (now (productions .entry)) (now (owns .entry)) r (lent (now (held .exit)) (now («held_owns» .exit)) (now (sets .exit)) (now (before .exit))) ⌝ }
 {
     match judge_ground(table, record, &*held, &*held_owns, &*sets, &*before) {
         Verdict::Sound => load_judged(
@@ -119,7 +118,7 @@ fn exchange_part(
     requires { ⌜ Grounded (now table) (lent (now held) (now «held_owns») (now sets) (now before)) «record» ⌝ }
     requires { ⌜ heldRefusal (now table) (lent (now held) (now «held_owns») (now sets) (now before)) «record» ≡ 0 ⌝ }
     requires { ⌜ (isOpen («record» .«open») ≡ false) × («record» .held ≡ true) × (point < «record» .nodes) ⌝ }
-    ensures { λ r. ⌜ begun r (lent (now (held .exit)) (now («held_owns» .exit)) (now (sets .exit)) (now (before .exit))) ≡ replaceCall (now (table .entry)) (lent (now (held .entry)) (now («held_owns» .entry)) (now (sets .entry)) (now (before .entry))) «record» point (now (new .entry)) (now («new_owns» .entry)) ⌝ }
+    ensures { λ r. ⌜ ReplaceLeaves (now (table .entry)) (lent (now (held .entry)) (now («held_owns» .entry)) (now (sets .entry)) (now (before .entry))) «record» point (now (new .entry)) (now («new_owns» .entry)) r (lent (now (held .exit)) (now («held_owns» .exit)) (now (sets .exit)) (now (before .exit))) ⌝ }
 {
     let nodes = record.nodes;
     let old = part_of(table, &held[..nodes], point);
@@ -164,7 +163,7 @@ pub fn replace_judged(
     before: &mut [u64],
 ) -> Begun
     requires { ⌜ Holding (now table) (lent (now held) (now «held_owns») (now sets) (now before)) «record» ⌝ }
-    ensures { λ r. ⌜ begun r (lent (now (held .exit)) (now («held_owns» .exit)) (now (sets .exit)) (now (before .exit))) ≡ replaceCall (now (table .entry)) (lent (now (held .entry)) (now («held_owns» .entry)) (now (sets .entry)) (now (before .entry))) «record» point (now (new .entry)) (now («new_owns» .entry)) ⌝ }
+    ensures { λ r. ⌜ ReplaceLeaves (now (table .entry)) (lent (now (held .entry)) (now («held_owns» .entry)) (now (sets .entry)) (now (before .entry))) «record» point (now (new .entry)) (now («new_owns» .entry)) r (lent (now (held .exit)) (now («held_owns» .exit)) (now (sets .exit)) (now (before .exit))) ⌝ }
 {
     match judge_point(record, point) {
         Verdict::Sound => exchange_part(
@@ -197,7 +196,7 @@ pub fn replace(
     sets: &mut [u64],
     before: &mut [u64],
 ) -> Begun
-    ensures { λ r. ⌜ begun r (lent (now (held .exit)) (now («held_owns» .exit)) (now (sets .exit)) (now (before .exit))) ≡ replaceCall (now (table .entry)) (lent (now (held .entry)) (now («held_owns» .entry)) (now (sets .entry)) (now (before .entry))) «record» point (now (new .entry)) (now («new_owns» .entry)) ⌝ }
+    ensures { λ r. ⌜ ReplaceLeaves (now (table .entry)) (lent (now (held .entry)) (now («held_owns» .entry)) (now (sets .entry)) (now (before .entry))) «record» point (now (new .entry)) (now («new_owns» .entry)) r (lent (now (held .exit)) (now («held_owns» .exit)) (now (sets .exit)) (now (before .exit))) ⌝ }
 {
     match judge_look(table, record, &*held, &*held_owns, &*sets, &*before) {
         Verdict::Sound => replace_judged(

@@ -40,26 +40,53 @@ empty-holds t m j room = record {
   tree = λ h. absurd (true≢false (sym h));
 }
 
+-- ---- no buffer becomes longer or shorter
+
+pub record SameLengths (m m′ : Memory) : Type 0 where
+  pub productions : length (m′ .productions) ≡ length (m .productions)
+  pub owns : length (m′ .owns) ≡ length (m .owns)
+  pub sets : length (m′ .sets) ≡ length (m .sets)
+  pub before : length (m′ .before) ≡ length (m .before)
+
+pub lengths-self : (m : Memory) → SameLengths m m
+lengths-self m = record { productions = refl; owns = refl; sets = refl; before = refl }
+
+still-roomy : {m m′ : Memory} → SameLengths m m′ → Roomy m → Roomy m′
+still-roomy a room = record {
+  productions = omega (arith, a .productions, room .productions);
+  owns = omega (arith, a .owns, room .owns);
+  sets = omega (arith, a .sets, room .sets);
+  before = omega (arith, a .before, room .before);
+}
+
 -- ---- a load that is accepted
 
 module _ (t : List ℕ) (m : Memory) (r : Record) where
+  load-lengths : (ns owns : List ℕ) → loadRefusal t m r ns owns ≡ 0 → SameLengths m (loaded m ns owns)
+  unfolding loaded
+  load-lengths ns owns h =
+      let c = all-exactly t m r .load ns owns .by0 .0 h in
+      let room = short-means m .0 (c .0) in
+      let few : length ns ≤ 512 = c .1 .1 .1 .1 .0 in
+      let e : length owns ≡ length ns = tree-equal t ns owns 0 (c .1 .1 .1 .1 .1) in
+      record {
+        productions = length-filled ns (m .productions) (omega (arith, room .productions));
+        owns = length-filled owns (m .owns) (omega (arith, room .owns));
+        sets = length-replicate {A = ℕ} (length (m .sets)) 0;
+        before = length-replicate {A = ℕ} (length (m .before)) 0;
+      }
+
   load-going : (ns owns : List ℕ) → loadRefusal t m r ns owns ≡ 0 → Going t (loaded m ns owns) (opened open-by.Load (length ns) 0 (length ns))
   unfolding loaded opened loadCall
   load-going ns owns h =
       let c = all-exactly t m r .load ns owns .by0 .0 h in
       let room = short-means m .0 (c .0) in
-      let few : length ns ≤ 512 = c .1 .1 .1 .1 .0 in
       let j : judgeTree t ns owns 0 ≡ 0 = c .1 .1 .1 .1 .1 in
       let e : length owns ≡ length ns = tree-equal t ns owns 0 j in
       record {
         ground = record {
           table = c .1 .0;
-          room = record {
-            productions = omega (arith, length-filled ns (m .productions) (omega (arith, room .productions)), room .productions);
-            owns = omega (arith, length-filled owns (m .owns) (omega (arith, room .owns)), room .owns);
-            sets = omega (arith, length-replicate {A = ℕ} (length (m .sets)) 0, room .sets);
-            before = omega (arith, length-replicate {A = ℕ} (length (m .before)) 0, room .before);
-          };
+          room = still-roomy (load-lengths ns owns h) room;
           within = beyond-means (opened open-by.Load (length ns) 0 (length ns)) .0 (rw h at (all-open-within t m r .load ns owns h));
         };
         held = refl;
@@ -111,23 +138,31 @@ module _ (t : List ℕ) (m : Memory) (r : Record) where
         length-exchanged (ownsOf m (r .nodes)) point k newOwns (omega arith) ∙ ap (λ (x : ℕ). x - k + length newOwns) o ∙ ap (λ (x : ℕ). r .nodes - k + x) e in
         record { long = a; owns-long = b; sound = sym (tree-judged t then thenOwns 0 (a ∙ sym b)) ∙ law .sound; few = few }
 
-    replace-going : Going t (replaced t m (r .nodes) point new newOwns) (opened open-by.Replacement count point (length new))
-    unfolding replaced opened replaceCall
-    replace-going =
+    replace-lengths : SameLengths m (replaced t m (r .nodes) point new newOwns)
+    unfolding replaced
+    replace-lengths =
         let c = all-exactly t m r .replace point new newOwns .by0 .0 h in
         let room = short-means m .0 (c .0) in
         let x = exchanged-sound in
         let values : ℕ → ℕ = arranged t then point k (length new) (m .sets) in
         let long : length (map values (upFrom 0 (8 * length then))) ≡ 8 * length then = map-long values 0 (8 * length then) in
         record {
+          productions = length-filled then (m .productions) (omega (arith, room .productions, x .long, x .few));
+          owns = length-filled thenOwns (m .owns) (omega (arith, room .owns, x .owns-long, x .few));
+          sets = length-filled (map values (upFrom 0 (8 * length then))) (m .sets) (omega (arith, room .sets, x .long, x .few));
+          before = length-filled (map values (upFrom 0 (8 * length then))) (m .before) (omega (arith, room .before, x .long, x .few));
+        }
+
+    replace-going : Going t (replaced t m (r .nodes) point new newOwns) (opened open-by.Replacement count point (length new))
+    unfolding replaced opened replaceCall
+    replace-going =
+        let c = all-exactly t m r .replace point new newOwns .by0 .0 h in
+        let room = short-means m .0 (c .0) in
+        let x = exchanged-sound in
+        record {
           ground = record {
             table = c .1 .0;
-            room = record {
-              productions = omega (arith, length-filled then (m .productions) (omega (arith, room .productions, x .long, x .few)), room .productions);
-              owns = omega (arith, length-filled thenOwns (m .owns) (omega (arith, room .owns, x .owns-long, x .few)), room .owns);
-              sets = omega (arith, length-filled (map values (upFrom 0 (8 * length then))) (m .sets) (omega (arith, room .sets, x .long, x .few)), room .sets);
-              before = omega (arith, length-filled (map values (upFrom 0 (8 * length then))) (m .before) (omega (arith, room .before, x .long, x .few)), room .before);
-            };
+            room = still-roomy replace-lengths room;
             within = beyond-means (opened open-by.Replacement count point (length new)) .0 (rw h at (all-open-within t m r .replace point new newOwns h));
           };
           held = refl;
@@ -165,3 +200,23 @@ module _ (t : List ℕ) (m : Memory) (r : Record) where
     pub order-keeps : (order : Order) (ns owns : List ℕ) → Keeps (orderCall order t m r ns owns)
     order-keeps Load ns owns = load-keeps ns owns
     order-keeps (Replace point) ns owns = replace-keeps point ns owns
+
+  -- ---- whatever is answered
+
+  pub order-lengths : (order : Order) (ns owns : List ℕ) → SameLengths m (orderCall order t m r ns owns .memory)
+  unfolding loadCall replaceCall
+  order-lengths Load ns owns = by-number (loadRefusal t m r ns owns) refl
+    where
+      by-number : (n : ℕ) → loadRefusal t m r ns owns ≡ n
+          → SameLengths m (unless n r m (record { answer = said is-open; next = opened open-by.Load (length ns) 0 (length ns); memory = loaded m ns owns }) .memory)
+      by-number zero h = load-lengths ns owns h
+      by-number (suc n) h = lengths-self m
+  order-lengths (Replace point) ns owns = by-number (replaceRefusal t m r point ns owns) refl
+    where
+      by-number : (n : ℕ) → replaceRefusal t m r point ns owns ≡ n → SameLengths m (unless n r m (record {
+        answer = said is-open;
+        next = opened open-by.Replacement (r .nodes - part t (nodesOf m (r .nodes)) point + length ns) point (length ns);
+        memory = replaced t m (r .nodes) point ns owns;
+      }) .memory)
+      by-number zero h = replace-lengths point ns owns h
+      by-number (suc n) h = lengths-self m

@@ -22,6 +22,8 @@ use Rattle.planting.specs.Planting.{Nodes, before, nodeThen, nodesAt}
 use Rattle.texts.specs.declared.Taken.{Taken}
 use Rattle.texts.specs.declared.Taken.the-variants.{Next, Stopped as StoppedAt}
 use Rattle.texts.proofs.Sofar.{goes}
+use Rattle.texts.proofs.Readings.{read-turn, read-ends}
+use Rattle.texts.proofs.Passing.{taken-type}
 use Rattle.planting.proofs.Trees.{nodes-forth}
 use Rattle.frames.specs.Out.{refusalText}
 use Rattle.frames.specs.declared.Frame.{Frame}
@@ -37,7 +39,7 @@ use Rattle.owing.specs.declared.Order.the-variants.{Load, Replace}
 use Rattle.owing.specs.declared.Mode.{Mode}
 use Rattle.owing.specs.declared.Mode.the-variants.{Table, Command, Nodes as NodesOf, Working, Stopped}
 use Rattle.owing.proofs.Windows.{Front, front}
-use Rattle.owing.proofs.Shifts.{command-moved, with-moved, onward-shift, nodes-shift, table-shift, read-shift, read-shut, read-turn, taken-type}
+use Rattle.owing.proofs.Shifts.{command-moved, with-moved, onward-shift, nodes-shift, table-shift, read-shift}
 use Rattle.owing.proofs.Opened.{empty-holds, order-keeps}
 use Rattle.owing.proofs.Coming.{heard-none, order-next, order-last, with-node, behind-none, behind-moved}
 
@@ -144,7 +146,7 @@ module _ (t ps os : List ℕ) (m : Memory) (r : Record) (line : ℕ) (w : List �
     table-first : (u : List ℕ) → owed (Table x) t ps os m r line (w ++ u)
         ≡ tableThen (w ++ u) m (after (takenAt t x f line) (λ y. readOn (left u) (wordsAfter t x f) y (w ++ u) (frameAt (w ++ u) 0 line .place) (frameAt (w ++ u) 0 line .line)))
     unfolding owed
-    table-first u = rw (turns u, read-turn t x (w ++ u) 0 line (left u) on, z .frame u)
+    table-first u = rw (turns u, read-turn (w ++ u) t x 0 line on (left u), z .frame u)
 
     -- what is owed with the words v behind the frame
     table-on : (v : List ℕ) (y : Expected) (u : List ℕ) → 0 < typeOf f
@@ -158,7 +160,7 @@ module _ (t ps os : List ℕ) (m : Memory) (r : Record) (line : ℕ) (w : List �
     next-owed v (AtSymbol s) u = refl
     next-owed v (AtProduction p) u = refl
     next-owed v (AtEquation p q k) u = refl
-    next-owed v Ended u = rw (read-shut v Ended u 0 (lineAfter line) (length u) refl)
+    next-owed v Ended u = rw (read-ends (length u) u v Ended 0 (lineAfter line) refl)
 
     next-sound : (v : List ℕ) (y : Expected) → Sofar v y → Roomy m → Sound (modeOf y) v m emptyRecord
     next-sound v AtHeader s room = (s, refl)

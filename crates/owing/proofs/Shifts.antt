@@ -1,51 +1,33 @@
 -- A text that stands behind another one: nodes, tables and commands are read there as they are without it, and from any number of turns on that
 -- is as large as the bytes that are left nothing depends on that number. Assumes nothing.
-use mathlib.Core.Path.{_≡_, refl, ap, sym, _∙_}
+use mathlib.Core.Path.{_≡_, refl, ap, sym}
 use mathlib.Core.Bool.{Bool, true, false}
 use mathlib.Core.List.{List, [], _++_}
 use Prim.Native.Nat.{ℕ, zero, suc, _+_, _≤_, _<_}
 use native.Mathlib.Omega.{arith}
-use borrow.Author.Tests.{eqb-true}
-use lib.Dec.{eqb}
 use lib.ListN.{length, length-append}
-use Rattle.refusal.specs.declared.Refusal.the-variants as why
-use Rattle.lines.specs.Text.{lineAt}
-use Rattle.lines.specs.declared.Line.{Line}
-use Rattle.lines.specs.declared.Line.the-variants.{Digits, Bad, End}
 use Rattle.update.specs.declared.Record.{Record}
 use Rattle.update.specs.Records.{emptyRecord}
 use Rattle.update.specs.Memories.{Memory}
 use Rattle.update.specs.Calls.{loadCall, replaceCall}
-use Rattle.frames.specs.Frames.{frameAt, stepOf}
+use Rattle.frames.specs.Frames.{frameAt}
 use Rattle.frames.specs.Walk.{isOn}
-use Rattle.texts.specs.Read.{typeOf, typeAt, takenAt, wordsAfter}
+use Rattle.texts.specs.Read.{typeOf, takenAt, wordsAfter}
 use Rattle.texts.specs.Reading as table
 use Rattle.texts.specs.Reading.{Reading, after, readOn}
 use Rattle.planting.specs.Planting.{Nodes, good, bad, before, nodeThen, nodesAt}
 use Rattle.texts.specs.declared.Taken.{Taken}
 use Rattle.texts.specs.declared.Taken.the-variants.{Next, Stopped}
 use Rattle.planting.proofs.Trees.{nodes-forth}
-use Rattle.texts.proofs.Sofar.{led}
+use Rattle.texts.proofs.Readings.{read-turn, read-ends}
+use Rattle.texts.proofs.Passing.{frame-on, none-left, taken-type, read-over}
 use Rattle.frames.specs.declared.Frame.{Frame}
 use Rattle.frames.specs.declared.Frame.the-variants.{Header, Symbol, Production, Equation, Node, Load, Replace, Dump, Refused, Over}
 use Rattle.frames.specs.declared.Expected.{Expected}
-use Rattle.frames.specs.declared.Expected.the-variants.{AtHeader, AtSymbol, AtProduction, AtEquation, Ended}
 use Rattle.frames.specs.declared.Step.{Step}
 use Rattle.frames.proofs.Back.{frame-behind}
 use Rattle.session.specs.Session.{Told, withNodes, openedThen, dumpTold, command, commandsFrom}
 use Rattle.owing.specs.Owed.{tableThen}
-use Rattle.owing.proofs.Windows.{none-left}
-
--- ---- a frame that has a type moves on
-
-frame-on : (s : List ℕ) (place line : ℕ) → 0 < typeOf (frameAt s place line .frame) → place < frameAt s place line .place
-unfolding frameAt
-frame-on s place line h = by-line (lineAt s place) h
-  where
-    by-line : (l : Line) → 0 < typeOf (stepOf s place line l .frame) → place < stepOf s place line l .place
-    by-line (Digits n) h = omega arith
-    by-line Bad h = absurd (omega arith)
-    by-line End h = absurd (omega arith)
 
 -- ---- nodes
 
@@ -86,52 +68,6 @@ after-moved : (k : ℕ) (x : Taken) (go on : Expected → Reading) → ((y : Exp
 after-moved k (Next y) go on e = e y refl
 after-moved k (Stopped refusal line) go on e = refl
 
-no-type : (x : Expected) → eqb 0 (typeAt x) ≡ false
-no-type AtHeader = refl
-no-type (AtSymbol s) = refl
-no-type (AtProduction p) = refl
-no-type (AtEquation p q k) = refl
-no-type Ended = refl
-
-some-type : (x : Expected) → 0 < typeAt x
-some-type AtHeader = omega arith
-some-type (AtSymbol s) = omega arith
-some-type (AtProduction p) = omega arith
-some-type (AtEquation p q k) = omega arith
-some-type Ended = omega arith
-
--- the end of the text is no frame of a table, and a broken line is none
-over-taken : (t : List ℕ) (x : Expected) (line : ℕ) → takenAt t x Over line ≡ Stopped why.Frame line
-unfolding takenAt
-over-taken t x line = rw (no-type x)
-
-pub broken-taken : (t : List ℕ) (x : Expected) (line : ℕ) → takenAt t x (Refused why.Line line) line ≡ Stopped why.Line line
-unfolding takenAt
-broken-taken t x line = rw (no-type x)
-
-pub taken-type : (t : List ℕ) (x : Expected) (f : Frame) (line : ℕ) (y : Expected) → takenAt t x f line ≡ Next y → 0 < typeOf f
-taken-type t x f line y h = let e = eqb-true (typeOf f) (typeAt x) (led t x f line y h .type) in omega (arith, some-type x)
-
--- a turn, and the end of the turns
-module _ (t : List ℕ) (x : Expected) (s : List ℕ) (place line : ℕ) where
-  pub read-shut : (n : ℕ) → isOn x ≡ false → readOn n t x s place line ≡ table.done t place line
-  unfolding readOn
-  read-shut zero h = rw h
-  read-shut (suc n) h = rw h
-
-  pub read-none : isOn x ≡ true → readOn 0 t x s place line ≡ table.stop why.Frame line
-  unfolding readOn
-  read-none h = rw h
-
-  pub read-turn : (n : ℕ) → isOn x ≡ true → readOn (suc n) t x s place line
-      ≡ after (takenAt t x (frameAt s place line .frame) line) (λ y. readOn n (wordsAfter t x (frameAt s place line .frame)) y s (frameAt s place line .place) (frameAt s place line .line))
-  unfolding readOn
-  read-turn n h = rw h
-
-  read-over : (n : ℕ) → isOn x ≡ true → length s ≤ place → readOn n t x s place line ≡ table.stop why.Frame line
-  read-over zero h l = read-none h
-  read-over (suc n) h l = read-turn n h ∙ rw (none-left s place line l, over-taken t x line)
-
 module _ (p s : List ℕ) where
   abbrev pub Moves : ℕ → ℕ → Type 0
   Moves n k = (t : List ℕ) (x : Expected) (place line : ℕ) → length s ≤ n + place → length s ≤ k + place
@@ -140,13 +76,13 @@ module _ (p s : List ℕ) where
   read-out : (n k : ℕ) (t : List ℕ) (x : Expected) (place line : ℕ) → isOn x ≡ true → length s ≤ place
       → readOn n t x (p ++ s) (length p + place) line ≡ movedTable (length p) (readOn k t x s place line)
   read-out n k t x place line on h =
-      rw (read-over t x (p ++ s) (length p + place) line n on (omega (arith, length-append p s)), read-over t x s place line k on h)
+      rw (read-over n t x (p ++ s) (length p + place) line on (omega (arith, length-append p s)), read-over k t x s place line on h)
 
   read-more : (n k : ℕ) → Moves n k → (t : List ℕ) (x : Expected) (place line : ℕ) → length s ≤ suc n + place → length s ≤ suc k + place → isOn x ≡ true
       → readOn (suc n) t x (p ++ s) (length p + place) line ≡ movedTable (length p) (readOn (suc k) t x s place line)
   read-more n k rest t x place line h l on =
       let step : Step = frameAt s place line in
-      rw (read-turn t x (p ++ s) (length p + place) line n on, read-turn t x s place line k on, frame-behind p s place line)
+      rw (read-turn (p ++ s) t x (length p + place) line on n, read-turn s t x place line on k, frame-behind p s place line)
       (after-moved (length p) (takenAt t x (step .frame) line) _ _ (λ y e.
       let m = frame-on s place line (taken-type t x (step .frame) line y e) in
       rest (wordsAfter t x (step .frame)) y (step .place) (step .line) (omega arith) (omega arith)))
@@ -155,7 +91,7 @@ module _ (p s : List ℕ) where
       → (isOn x ≡ true → readOn n t x (p ++ s) (length p + place) line ≡ movedTable (length p) (readOn k t x s place line))
       → readOn n t x (p ++ s) (length p + place) line ≡ movedTable (length p) (readOn k t x s place line)
   on-or-not n k t x place line true e f = f e
-  on-or-not n k t x place line false e f = rw (read-shut t x (p ++ s) (length p + place) line n e, read-shut t x s place line k e)
+  on-or-not n k t x place line false e f = rw (read-ends n (p ++ s) t x (length p + place) line e, read-ends k s t x place line e)
 
   pub read-shift : (n k : ℕ) → Moves n k
   read-shift zero k t x place line h l = on-or-not 0 k t x place line (isOn x) refl (λ on. read-out 0 k t x place line on (omega arith))

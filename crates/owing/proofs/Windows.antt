@@ -16,7 +16,6 @@ use Rattle.lines.specs.declared.Line.{Line}
 use Rattle.lines.specs.declared.Line.the-variants.{Digits, Bad, End}
 use Rattle.lines.proofs.Values.{lt-or-ge}
 use Rattle.lines.proofs.Window.{Alike, num-alike, line-ahead}
-use Rattle.lines.proofs.Rows as rows
 use Rattle.lines.proofs.Rows.{line-says, end-says}
 use Rattle.frames.specs.Frames.{wrongLength, sized, childAt, dumpOf, headerOf, symbolOf, productionOf, equationOf, nodeOf, loadOf, replaceOf, kindOf, frameOf, stepOf, frameAt, lineAfter}
 use Rattle.texts.specs.Read.{typeOf}
@@ -224,10 +223,6 @@ front w line h = by-line (lineAt w 0) refl
     by-line End e = absurd (omega (arith, end-says w 0 e, h .some))
 
 -- ---- what a line is that has only begun
-
-pub none-left : (s : List ℕ) (place line : ℕ) → length s ≤ place → frameAt s place line .frame ≡ Over
-unfolding frameAt
-none-left s place line h = let e : lineAt s place ≡ End = sym (rows.line-end s place h) in rw e
 
 pub begun : (w : List ℕ) (line : ℕ) → Begun w → 0 < length w → frameAt w 0 line .frame ≡ Refused why.Line line
 unfolding frameAt

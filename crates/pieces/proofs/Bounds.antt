@@ -1,5 +1,5 @@
--- What a line prints at the most, and that the table's words are as many behind it. Assumes nothing.
-use mathlib.Core.Path.{_≡_, refl, ap, sym, _∙_}
+-- What a line prints at the most, and that every buffer is as long behind it. Assumes nothing.
+use mathlib.Core.Path.{_≡_, refl, sym, _∙_}
 use mathlib.Core.Bool.{Bool, true, false, cond}
 use mathlib.Core.Logic.{⊎-elim}
 use mathlib.Core.List.{List, []}
@@ -20,40 +20,52 @@ use Rattle.texts.specs.declared.Taken.the-variants.{Next, Stopped as StoppedAt}
 use Rattle.texts.specs.Read.{wordsAfter, takenAt}
 use Rattle.texts.proofs.Readings.{words-length}
 use Rattle.judging.specs.Order.{Holding}
+use Rattle.frames.specs.Out.{refusalText}
 use Rattle.session.specs.Session.{dumpTold}
 use Rattle.owing.specs.Owed.{Sound, orderCall}
-use Rattle.owing.specs.Hearing.{Heard, stopped, strange, waiting, openedBy, called, ordered, commanded, tabled, noded, keptAt, modeOf, hearing}
+use Rattle.owing.specs.Hearing.{Heard, stopped, waiting, turnsMost, openedBy, called, ordered, commanded, tabled, noded, keptAt, hearing}
 use Rattle.owing.specs.declared.Order.{Order}
 use Rattle.owing.specs.declared.Order.the-variants.{Load, Replace}
 use Rattle.owing.specs.declared.Mode.{Mode}
 use Rattle.owing.specs.declared.Mode.the-variants.{Table, Command, Nodes, Working, Stopped}
+use Rattle.owing.proofs.Opened.{SameLengths, lengths-self, order-lengths}
+use Rattle.hearing.proofs.Cases.{kept-long}
 use Rattle.hearing.proofs.Heard.{refusal-length}
 use Rattle.hearing.proofs.Dumps.{dump-busy, dump-absent, dump-sets, told-most}
 
--- n words, and no more bytes than a dump of 4,096 sets
-pub record Modest (n : ℕ) (h : Heard) : Type 0 where
-  pub size : length (h .words) ≡ n
+-- buffers as long as they were, and no more bytes than a dump of 4,096 sets
+pub record Modest (t ps os : List ℕ) (m : Memory) (h : Heard) : Type 0 where
+  pub words : length (h .words) ≡ length t
+  pub parts : length (h .parts) ≡ length ps
+  pub owns : length (h .partOwns) ≡ length os
+  pub memory : SameLengths m (h .memory)
   pub few : length (h .text) ≤ 94208
 
 module _ (t ps os : List ℕ) (m : Memory) (r : Record) where
-  waits : (mode : Mode) → Modest (length t) (waiting t ps os m r mode)
-  waits mode = record { size = refl; few = omega arith }
+  -- words and nodes stay, whatever is printed and waited for
+  modest : (mode : Mode) (text : List ℕ) (next : Record) (m′ : Memory) → SameLengths m m′ → length text ≤ 94208
+      → Modest t ps os m (record { mode = mode; text = text; next = next; words = t; parts = ps; partOwns = os; memory = m′ })
+  modest mode text next m′ k h = record { words = refl; parts = refl; owns = refl; memory = k; few = h }
 
-  stops : (n line : ℕ) → Modest (length t) (stopped t ps os m r n line)
-  stops n line = record { size = refl; few = omega (arith, refusal-length n line) }
+  waits : (mode : Mode) → Modest t ps os m (waiting t ps os m r mode)
+  waits mode = modest mode [] r m (lengths-self m) (omega arith)
 
-  opens : (at : ℕ) (left : Left (Said Opened)) → Modest (length t) (openedBy t ps os m r at left)
-  opens at left = by-answer (left .answer) refl
+  stops : (n line : ℕ) → Modest t ps os m (stopped t ps os m r n line)
+  stops n line = modest Stopped (refusalText n line) r m (lengths-self m) (omega (arith, refusal-length n line))
+
+  opens : (at : ℕ) (left : Left (Said Opened)) → SameLengths m (left .memory) → Modest t ps os m (openedBy t ps os m r at left)
+  opens at left k = by-answer (left .answer) refl
     where
-      by-answer : (a : Said Opened) → left .answer ≡ a → Modest (length t) (openedBy t ps os m r at left)
-      by-answer (refused n) e = rw e (record { size = refl; few = omega (arith, refusal-length n at) })
-      by-answer (said is-open) e = rw e (record { size = refl; few = omega arith })
+      by-answer : (a : Said Opened) → left .answer ≡ a → Modest t ps os m (openedBy t ps os m r at left)
+      by-answer (refused n) e = rw e (modest Command (refusalText n at) (left .next) (left .memory) k (omega (arith, refusal-length n at)))
+      by-answer (said is-open) e = rw e (modest (Working turnsMost) [] (left .next) (left .memory) k (omega arith))
 
-  calls : (order : Order) (count at : ℕ) → Modest (length t) (called t ps os m r order count at)
+  calls : (order : Order) (count at : ℕ) → Modest t ps os m (called t ps os m r order count at)
   unfolding called
-  calls order count at = opens at (orderCall order t m r (take (min count 513) ps) (take (min count 513) os))
+  calls order count at =
+      opens at (orderCall order t m r (take (min count 513) ps) (take (min count 513) os)) (order-lengths t m r order (take (min count 513) ps) (take (min count 513) os))
 
-  orders : (order : Order) (count line : ℕ) → Modest (length t) (ordered t ps os m r order count line)
+  orders : (order : Order) (count line : ℕ) → Modest t ps os m (ordered t ps os m r order count line)
   orders order zero line = calls order zero line
   orders order (suc n) line = waits (Nodes order (suc n) 0 line)
 
@@ -69,7 +81,7 @@ module _ (t ps os : List ℕ) (m : Memory) (r : Record) where
       (either (r .held)))
       (either (isOpen (r .«open»)))
 
-  commands : Holding t m r → (f : Frame) (line : ℕ) → Modest (length t) (commanded t ps os m r f line)
+  commands : Holding t m r → (f : Frame) (line : ℕ) → Modest t ps os m (commanded t ps os m r f line)
   unfolding commanded
   commands k (frame.Header a b) line = stops 14 line
   commands k (frame.Symbol a b) line = stops 14 line
@@ -78,36 +90,40 @@ module _ (t ps os : List ℕ) (m : Memory) (r : Record) where
   commands k (frame.Node a b) line = stops 14 line
   commands k (frame.Load count) line = orders Load count line
   commands k (frame.Replace point count) line = orders (Replace point) count line
-  commands k frame.Dump line = record { size = refl; few = dump-few line k }
+  commands k frame.Dump line = modest Command (dumpTold line t r m .text) r m (lengths-self m) (dump-few line k)
   commands k (frame.Refused refusal own) line = stops (numberOf refusal) own
   commands k frame.Over line = stops 14 line
 
+-- over others of the same lengths
+over : {t ps qs os ws : List ℕ} {m : Memory} {h : Heard} → length qs ≡ length ps → length ws ≡ length os → Modest t qs ws m h → Modest t ps os m h
+over e f k = record { words = k .words; parts = k .parts ∙ e; owns = k .owns ∙ f; memory = k .memory; few = k .few }
+
 node-comes : (b : Bool) (t ps os : List ℕ) (m : Memory) (r : Record) (mode : Mode) (order : Order) (count at : ℕ)
-    → Modest (length t) (cond b (waiting t ps os m r mode) (called t ps os m r order count at))
+    → Modest t ps os m (cond b (waiting t ps os m r mode) (called t ps os m r order count at))
 node-comes true t ps os m r mode order count at = waits t ps os m r mode
 node-comes false t ps os m r mode order count at = calls t ps os m r order count at
 
-nodes : (order : Order) (count taken at : ℕ) (f : Frame) (line : ℕ) (t ps os : List ℕ) (m : Memory) (r : Record) → Modest (length t) (noded order count taken at f line t ps os m r)
+nodes : (order : Order) (count taken at : ℕ) (f : Frame) (line : ℕ) (t ps os : List ℕ) (m : Memory) (r : Record) → Modest t ps os m (noded order count taken at f line t ps os m r)
 unfolding noded
 nodes order count taken at (frame.Header a b) line t ps os m r = stops t ps os m r 14 line
 nodes order count taken at (frame.Symbol a b) line t ps os m r = stops t ps os m r 14 line
 nodes order count taken at (frame.Production a b c) line t ps os m r = stops t ps os m r 14 line
 nodes order count taken at (frame.Equation a b c d) line t ps os m r = stops t ps os m r 14 line
 nodes order count taken at (frame.Node p o) line t ps os m r =
-    node-comes (ltb (taken + 1) count) t (keptAt taken p ps) (keptAt taken o os) m r (Nodes order count (taken + 1) at) order count at
+    over (kept-long taken p ps) (kept-long taken o os) (node-comes (ltb (taken + 1) count) t (keptAt taken p ps) (keptAt taken o os) m r (Nodes order count (taken + 1) at) order count at)
 nodes order count taken at (frame.Load a) line t ps os m r = stops t ps os m r 14 line
 nodes order count taken at (frame.Replace a b) line t ps os m r = stops t ps os m r 14 line
 nodes order count taken at frame.Dump line t ps os m r = stops t ps os m r 14 line
 nodes order count taken at (frame.Refused refusal own) line t ps os m r = stops t ps os m r (numberOf refusal) own
 nodes order count taken at frame.Over line t ps os m r = stops t ps os m r 14 line
 
-tables : (n : ℕ) (w ps os : List ℕ) (m : Memory) (x : Taken) → length w ≡ n → Modest n (tabled w ps os m x)
-tables n w ps os m (Next y) e = record { size = e; few = omega arith }
-tables n w ps os m (StoppedAt refusal line) e = record { size = e; few = omega (arith, refusal-length (numberOf refusal) line) }
+tables : (t w ps os : List ℕ) (m : Memory) (x : Taken) → length w ≡ length t → Modest t ps os m (tabled w ps os m x)
+tables t w ps os m (Next y) e = record { words = e; parts = refl; owns = refl; memory = lengths-self m; few = omega arith }
+tables t w ps os m (StoppedAt refusal line) e = record { words = e; parts = refl; owns = refl; memory = lengths-self m; few = omega (arith, refusal-length (numberOf refusal) line) }
 
-pub heard-modest : (mode : Mode) (f : Frame) (line : ℕ) (t ps os : List ℕ) (m : Memory) (r : Record) → Sound mode t m r → Modest (length t) (hearing mode f line t ps os m r)
+pub heard-modest : (mode : Mode) (f : Frame) (line : ℕ) (t ps os : List ℕ) (m : Memory) (r : Record) → Sound mode t m r → Modest t ps os m (hearing mode f line t ps os m r)
 unfolding hearing
-heard-modest (Table x) f line t ps os m r k = tables (length t) (wordsAfter t x f) ps os m (takenAt t x f line) (words-length t x f)
+heard-modest (Table x) f line t ps os m r k = tables t (wordsAfter t x f) ps os m (takenAt t x f line) (words-length t x f)
 heard-modest Command f line t ps os m r k = commands t ps os m r k f line
 heard-modest (Nodes order count taken at) f line t ps os m r k = nodes order count taken at f line t ps os m r
 heard-modest (Working turns) f line t ps os m r k = waits t ps os m r (Working turns)

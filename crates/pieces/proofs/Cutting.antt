@@ -1,11 +1,11 @@
--- Pieces in a row print what the whole text does. Assumes nothing.
-use mathlib.Core.Path.{_≡_, refl, ap, sym, _∙_}
+-- Calls in a row print what is owed, and end; pieces in a row print what the whole text does. Assumes nothing.
+use mathlib.Core.Path.{_≡_, refl, ap, sym, _∙_, subst}
 use mathlib.Core.Bool.{Bool, true, false}
 use mathlib.Core.List.{List, [], _∷_, _++_, append-nil, append-assoc}
-use Prim.Native.Nat.{ℕ, zero, suc, _+_, _≤_, _<_}
+use Prim.Native.Nat.{ℕ, zero, suc, _+_, _*_, _≤_, _<_}
 use native.Mathlib.Omega.{arith}
-use lib.ListN.{length, take, drop, length-take, replicate, drop-of-length-le}
-use Rattle.session.specs.Session.{session, ownMemory}
+use lib.ListN.{length, drop, length-take, length-append, drop-of-length-le}
+use Rattle.session.specs.Session.{session}
 use Rattle.owing.specs.Owed.{owed}
 use Rattle.owing.specs.Laws.{listens, endText}
 use Rattle.owing.specs.declared.Mode.{Mode}
@@ -14,7 +14,9 @@ use Rattle.owing.proofs.Ending.{end-pays, all-owed}
 use Rattle.desk.specs.Desk.{Desk, Fits, tableOf, lineOf, owedFor}
 use Rattle.desk.specs.Ending.{lastText}
 use Rattle.pieces.specs.Feeding.{Feeds}
-use Rattle.pieces.specs.Laws.{Starts, Piece, last, more, Pieces, ends, next, joined, HoweverCut}
+use Rattle.pieces.specs.Laws.{Starts, firstDesk, firstOut, Again, Lending, Calls, none, more, Piece, last, Pieces, ends, next, CallsEnd, Ended, PieceEnds, joined, HoweverCut, AlwaysCut, EveryCutting}
+use Rattle.pieces.proofs.Beginning.{program-starts}
+use Rattle.pieces.proofs.Answering.{always-answered}
 
 -- a desk between two pieces
 record Rests (d : Desk) : Type 0 where
@@ -37,16 +39,81 @@ module _ (d : Desk) where
   used-up piece place h (Working turns) e u = rw (drop-of-length-le piece (h (λ o. let z : _≡_ {A = ℕ} 0 1 = cc in omega arith)))
   used-up piece place h Stopped e u = owes-none (drop place piece ++ u) e ∙ sym (owes-none u e)
 
--- one piece
-piece-rests : {d d′ : Desk} {piece text : List ℕ} {from : ℕ} → Piece d piece from text d′ → Rests d′
-piece-rests (last {out′ = out′} f) = record { out = out′; fits = f .fits; idle = f .idle refl }
-piece-rests (more f p) = piece-rests p
+module _ {Lends : List ℕ → List ℕ → Type 0} where
+  -- ---- calls in a row
 
-piece-pays : {d d′ : Desk} {piece text : List ℕ} {from : ℕ} → Piece d piece from text d′ → (u : List ℕ) → owedFor d (drop from piece ++ u) ≡ text ++ owedFor d′ u
-piece-pays {d′ = d′} {piece = piece} (last {place = place} f) u = f .paid u ∙ ap (λ (l : List ℕ). f .text ++ l) (used-up d′ piece place (f .used refl) (d′ .state .mode) refl u)
-piece-pays {d′ = d″} (more {d′ = d′} {text = text} f p) u = f .paid u ∙ ap (λ (l : List ℕ). f .text ++ l) (piece-pays p u) ∙ sym (append-assoc (f .text) text (owedFor d″ u))
+  module _ {d : Desk} {out piece : List ℕ} {from : ℕ} where
+    calls-pay : {n : ℕ} {text : List ℕ} {d′ : Desk} {out′ : List ℕ} {place : ℕ} → Calls Lends d out piece from n text d′ out′ place
+        → (u : List ℕ) → owedFor d (drop from piece ++ u) ≡ text ++ owedFor d′ (drop place piece ++ u)
+    calls-pay none u = refl
+    calls-pay {d′ = d′} {place = place} (more {text = text} c l f) u =
+        calls-pay c u ∙ ap (λ (s : List ℕ). text ++ s) (f .paid u) ∙ sym (append-assoc text (f .text) (owedFor d′ (drop place piece ++ u)))
 
--- the end of the input
+    calls-long : {n : ℕ} {text : List ℕ} {d′ : Desk} {out′ : List ℕ} {place : ℕ} → Calls Lends d out piece from n text d′ out′ place → 36865 * n ≤ length text
+    calls-long none = omega arith
+    calls-long (more {n = n} {text = text} c l f) = omega (arith, calls-long c, f .full refl, f .length-of, length-append text (f .text))
+
+    -- ---- one piece
+
+    piece-fits : {n : ℕ} {text : List ℕ} {d′ : Desk} {out′ : List ℕ} → Piece Lends d out piece from n text d′ out′ → Fits d′ out′
+    piece-fits (last c l f) = f .fits
+
+    piece-rests : {n : ℕ} {text : List ℕ} {d′ : Desk} {out′ : List ℕ} → Piece Lends d out piece from n text d′ out′ → Rests d′
+    piece-rests {out′ = out′} (last c l f) = record { out = out′; fits = f .fits; idle = f .idle refl }
+
+    piece-pays : {n : ℕ} {text : List ℕ} {d′ : Desk} {out′ : List ℕ} → Piece Lends d out piece from n text d′ out′
+        → (u : List ℕ) → owedFor d (drop from piece ++ u) ≡ text ++ owedFor d′ u
+    piece-pays {d′ = d′} (last {text = text} {place = place} c l f) u =
+        calls-pay c u
+        ∙ ap (λ (s : List ℕ). text ++ s) (f .paid u ∙ ap (λ (s : List ℕ). f .text ++ s) (used-up d′ piece place (f .used refl) (d′ .state .mode) refl u))
+        ∙ sym (append-assoc text (f .text) (owedFor d′ u))
+
+pub calls-end : CallsEnd
+calls-end Lends d out piece from n text d′ out′ place c =
+    let e : owedFor d (drop from piece) ≡ text ++ owedFor d′ (drop place piece ++ []) = ap (owedFor d) (sym (append-nil (drop from piece))) ∙ calls-pay c [] in
+    omega (arith, calls-long c, ap length e, length-append text (owedFor d′ (drop place piece ++ [])))
+
+-- ---- a piece comes to its end
+
+fits-lent : {d : Desk} {out : List ℕ} (o : List ℕ) → Fits d out → 131072 ≤ length o → Fits d o
+fits-lent o f h = record {
+  wide = record { words-room = f .wide .words-room; window-room = f .wide .window-room; parts-room = f .wide .parts-room; owns-room = f .wide .owns-room; room = f .wide .room; out-room = h };
+  begun = f .begun;
+  line = f .line;
+  sound = f .sound;
+}
+
+-- what is owed falls by what a call prints
+pub owed-less : {e d′ : Desk} {piece : List ℕ} {at place printed : ℕ} {o o′ : List ℕ} → Feeds e piece at o d′ place printed true o′
+    → 36865 + length (owedFor d′ (drop place piece)) ≤ length (owedFor e (drop at piece))
+owed-less {e = e} {d′ = d′} {piece = piece} {at = at} {place = place} f =
+    let p : owedFor e (drop at piece) ≡ f .text ++ owedFor d′ (drop place piece) =
+    ap (owedFor e) (sym (append-nil (drop at piece))) ∙ f .paid [] ∙ ap (λ (l : List ℕ). f .text ++ owedFor d′ l) (append-nil (drop place piece)) in
+    omega (arith, ap length p, length-append (f .text) (owedFor d′ (drop place piece)), f .full refl, f .length-of)
+
+module _ (Lends : List ℕ → List ℕ → Type 0) (lending : Lending Lends) (d : Desk) (out piece : List ℕ) (from : ℕ) where
+  -- calls so far, and the next: the last, or one more
+  module _ {n : ℕ} {text : List ℕ} {e : Desk} {o lent : List ℕ} {at : ℕ} (c : Calls Lends d out piece from n text e o at) (l : Lends o lent) where
+    call-then : (d′ : Desk) (place printed : ℕ) (more : Bool) (o′ : List ℕ) (f : Feeds e piece at lent d′ place printed more o′)
+        → ((t : Feeds e piece at lent d′ place printed true o′) → Calls Lends d out piece from (suc n) (text ++ t .text) d′ o′ place → Ended Lends d out piece from) → Ended Lends d out piece from
+    call-then d′ place printed true o′ f go = go f (more c l f)
+    call-then d′ place printed false o′ f go =
+        record { again = n; text = text ++ f .text; then = d′; left = o′; taken = last c l f; few = calls-end Lends d out piece from n text e o at c }
+
+  ends-from : (k : ℕ) {n : ℕ} {text : List ℕ} (e : Desk) (o : List ℕ) (at : ℕ) → length (owedFor e (drop at piece)) < k → Fits e o → Calls Lends d out piece from n text e o at
+      → Ended Lends d out piece from
+  ends-from zero e o at h f c = absurd (omega arith)
+  ends-from (suc k) e o at h f c =
+      let l = lending o (f .wide .out-room) in
+      let a = always-answered e piece at (l .0) (fits-lent (l .0) f (l .2)) in
+      call-then c (l .1) (a .then) (a .place) (a .printed) (a .more) (a .left) (a .feeds)
+      (λ t next. ends-from k (a .then) (a .left) (a .place) (omega (arith, owed-less t)) (t .fits) next)
+
+pub piece-ends : PieceEnds
+piece-ends Lends lending d out piece from fits = ends-from Lends lending d out piece from (suc (length (owedFor d (drop from piece)))) d out from (omega arith) fits none
+
+-- ---- the end of the input
+
 end-owed : (d : Desk) → Rests d → owedFor d [] ≡ lastText (d .state)
 end-owed d r =
     let n : length (lineOf d) ≡ d .state .begun = length-take (d .state .begun) (d .window) ∙ omega (arith, r .fits .begun, r .fits .wide .window-room) in
@@ -54,13 +121,42 @@ end-owed d r =
     (end-pays (d .state .mode) (tableOf d) (d .parts) (d .partOwns) (d .memory) (d .state .«record») (d .state .line) (lineOf d) (r .idle) (r .fits .sound) (r .fits .line)
     ∙ ap (λ (k : ℕ). endText (d .state .mode) k (d .state .line)) n)
 
-pieces-pay : {d : Desk} {pieces : List (List ℕ)} {text : List ℕ} → Rests d → Pieces d pieces text → owedFor d (joined pieces) ≡ text
+-- ---- pieces in a row
+
+pieces-pay : {Lends : List ℕ → List ℕ → Type 0} {d : Desk} {out : List ℕ} {pieces : List (List ℕ)} {text : List ℕ} → Rests d → Pieces Lends d out pieces text
+    → owedFor d (joined pieces) ≡ text
 unfolding joined
-pieces-pay {d} r ends = end-owed d r
+pieces-pay {d = d} r ends = end-owed d r
 pieces-pay r (next {text = text} {pieces = pieces} p q) = piece-pays p (joined pieces) ∙ ap (λ (l : List ℕ). text ++ l) (pieces-pay (piece-rests p) q)
 
+starts-rests : {d : Desk} {out : List ℕ} → Starts d out → Rests d
+starts-rests {out = out} s = record { out = out; fits = s .fits; idle = rw (s .mode) }
+
 pub however-cut : HoweverCut
-however-cut d out pieces text s p =
-    let idle : listens (d .state .mode) ≡ true = rw (s .mode) in
+however-cut Lends d out pieces text s p =
     let first : owedFor d (joined pieces) ≡ session (joined pieces) = rw (s .mode, s .line, s .empty, s .words, s .memory) (all-owed (d .parts) (d .partOwns) (d .state .«record») (joined pieces)) in
-    sym (pieces-pay (record { out = out; fits = s .fits; idle = idle }) p) ∙ first
+    sym (pieces-pay (starts-rests s) p) ∙ first
+
+-- ---- and there is an output
+
+module _ (Lends : List ℕ → List ℕ → Type 0) (lending : Lending Lends) where
+  some-output : (pieces : List (List ℕ)) (d : Desk) (out : List ℕ) → Fits d out → (text : List ℕ) × Pieces Lends d out pieces text
+  some-output [] d out fits = (lastText (d .state), ends)
+  some-output (piece ∷ pieces) d out fits =
+      let p = piece-ends Lends lending d out piece 0 fits in
+      let q = some-output pieces (p .then) (p .left) (piece-fits (p .taken)) in
+      (p .text ++ q .0, next (p .taken) (q .1))
+
+pub always-cut : AlwaysCut
+always-cut Lends lending d out pieces s =
+    let p = some-output Lends lending pieces d out (s .fits) in
+    subst (λ (l : List ℕ). Pieces Lends d out pieces l) (however-cut Lends d out pieces (p .0) s (p .1)) (p .1)
+
+lends-again : Lending Again
+lends-again o h = (o, refl, h)
+
+pub every-cutting : EveryCutting
+every-cutting pieces text = (
+  λ p. however-cut Again firstDesk firstOut pieces text program-starts p,
+  λ (e : text ≡ session (joined pieces)). subst (λ (l : List ℕ). Pieces Again firstDesk firstOut pieces l) (sym e) (always-cut Again lends-again firstDesk firstOut pieces program-starts),
+)

@@ -2,7 +2,7 @@
 use mathlib.Core.Path.{_≡_, refl, ap, sym, _∙_, subst}
 use mathlib.Core.Bool.{Bool, true, false, true≢false}
 use mathlib.Core.List.{List, [], _∷_, _++_, append-nil, append-assoc}
-use Prim.Native.Nat.{ℕ, zero, suc, _+_, _*_, _-_, _≤_, _<_, min}
+use Prim.Native.Nat.{ℕ, suc, _+_, _-_, _≤_, _<_}
 use native.Mathlib.Omega.{arith}
 use native.Mathlib.Nat.{lt-of-not-le}
 use types.Run.{OneOf, miss}
@@ -16,10 +16,11 @@ use Rattle.update.specs.Refusals.{firstRefusal}
 use Rattle.frames.specs.Frames.{frameAt, lineAfter}
 use Rattle.frames.specs.declared.Frame.{Frame}
 use Rattle.session.specs.Session as session
-use Rattle.session.specs.Session.{stepsTold, before, commandsFrom}
+use Rattle.session.specs.Session.{stepsTold, before}
 use Rattle.owing.specs.Owed.{owed, onward, Sound}
 use Rattle.owing.specs.Hearing.{Heard, hearing, Hears, Spacious}
-use Rattle.telling.specs.Telling.{RoundsTold, Rests, ended, full}
+use Rattle.telling.specs.Telling.{Worked, Rests, ended, full, RoundsPaid, RoundsTold}
+use Rattle.telling.proofs.Paying.{rounds-pay}
 use Rattle.owing.specs.Laws.{listens, Pays}
 use Rattle.owing.specs.declared.Mode.{Mode}
 use Rattle.owing.specs.declared.Mode.the-variants.{Table, Command, Nodes, Working, Stopped}
@@ -30,13 +31,12 @@ use Rattle.desk.specs.declared.State.{State}
 use Rattle.desk.specs.Desk.{Desk, desk, tableOf, lineOf, owedFor, Wide, Fits}
 use Rattle.desk.specs.Refusals.{settledNumbers, stateRefusal}
 use Rattle.pieces.specs.Feeding.{Feeds}
-use Rattle.desk.specs.Ending.{silent}
 use Rattle.desk.specs.Gathering.{Gathers}
 use Rattle.desk.proofs.Refusing.{given-wide, all-state-gives}
 use Rattle.pieces.proofs.Bounds.{Modest, heard-modest}
 use Rattle.pieces.specs.Running as running
-use Rattle.pieces.specs.Running.{Moment, moment, momentOf, afterRounds, Goes, Runs}
-use Rattle.pieces.specs.Faring.{Ready, Sized, Fares, atWork, toDo, Turns}
+use Rattle.pieces.specs.Running.{Moment, silent, moment, momentOf, afterRounds, Goes, Runs}
+use Rattle.pieces.specs.Faring.{Ready, Sized, Fares, atWork, Turns}
 
 -- ---- turns in a row
 
@@ -257,15 +257,26 @@ module _ (t w ps os : List ℕ) (m : Memory) (s : State) (piece : List ℕ) (fro
       abbrev after : Desk
       after = desk t′ w′ ps′ os′ m′ (record { mode = told .mode; begun = 0; line = line′; «record» = told .«record» })
 
-      module _ (k : Sized here after) (yes : whole ≡ true) (on : silent (s .mode) ≡ false) where
+      module _ (yes : whole ≡ true) (on : silent (s .mode) ≡ false) where
         pays : Pays (s .mode) t ps os m (s .«record») (s .line) (take n w′) heard
         pays = line-pays (s .mode) t ps os m (s .«record») (s .line) (take n w′) (listening (s .mode) on) sound-here (ready .fits .wide .room) (ready .fits .wide .parts-room) (ready .fits .wide .owns-room) (g .decided yes)
 
-        bounds : Modest (length t) heard
+        bounds : Modest t ps os m heard
         bounds = heard-modest (s .mode) frameOf (s .line) t ps os m (s .«record») sound-here
 
         size-after : length t′ ≡ 2657
-        size-after = ap length (h .words-then) ∙ bounds .size ∙ ready .size
+        size-after = ap length (h .words-then) ∙ bounds .words ∙ ready .size
+
+        sized-after : Sized here after
+        sized-after = record {
+          window = size;
+          parts = ap length (h .parts-then) ∙ bounds .parts;
+          part-owns = ap length (h .owns-then) ∙ bounds .owns;
+          productions = ap (λ (x : Memory). length (x .productions)) (h .memory) ∙ bounds .memory .productions;
+          owns = ap (λ (x : Memory). length (x .owns)) (h .memory) ∙ bounds .memory .owns;
+          sets-size = ap (λ (x : Memory). length (x .sets)) (h .memory) ∙ bounds .memory .sets;
+          before = ap (λ (x : Memory). length (x .before)) (h .memory) ∙ bounds .memory .before;
+        }
 
         table-after : tableOf after ≡ heard .words
         table-after = take-all 2657 t′ (omega (arith, size-after)) ∙ h .words-then
@@ -285,7 +296,7 @@ module _ (t w ps os : List ℕ) (m : Memory) (s : State) (piece : List ℕ) (fro
             text = heard .text;
             ready = record {
               fits = record {
-                wide = still-wide here after out out′ (ready .fits .wide) size-after k out-after;
+                wide = still-wide here after out out′ (ready .fits .wide) size-after sized-after out-after;
                 begun = omega arith;
                 line = record { few = omega arith; no-end = λ i z. absurd (omega arith) };
                 sound = rw (table-after, h .memory, h .next, h .mode) (pays .sound);
@@ -332,6 +343,20 @@ module _ (t w ps os : List ℕ) (m : Memory) (s : State) (piece : List ℕ) (fro
     out-then : length out′ ≡ length out
     out-then = ap length (h .shown) ∙ length-sets out printed (h .text)
 
+    paid : RoundsPaid t m (s .«record») turns (length out - printed) (record { text = h .text; mode = told .mode; next = told .«record»; memory = m′ })
+    paid = subst (λ (w : Worked). RoundsPaid t m (s .«record») turns (length out - printed) w) (h .exactly) (rounds-pay t m (s .«record») turns (length out - printed) (rw working at sound-here))
+
+    sized-then : Sized here then
+    sized-then = record {
+      window = refl;
+      parts = refl;
+      part-owns = refl;
+      productions = ap (λ (x : Memory). length (x .productions)) (paid .kept);
+      owns = ap (λ (x : Memory). length (x .owns)) (paid .kept);
+      sets-size = paid .size;
+      before = ap (λ (x : Memory). length (x .before)) (paid .kept);
+    }
+
     at-work : atWork (s .mode) ≡ 1
     at-work = rw working
 
@@ -340,26 +365,26 @@ module _ (t w ps os : List ℕ) (m : Memory) (s : State) (piece : List ℕ) (fro
         (λ j. moment then from (h .shown j) (h .place j))
         ∙ ap (afterRounds (moment here from out printed)) (sym (h .exactly))
 
-    pub rounds-told : Sized here then → Turns here piece from out printed then from out′ (told .printed) true
-    rounds-told k = record {
+    pub rounds-told : Turns here piece from out printed then from out′ (told .printed) true
+    rounds-told = record {
       fares = record {
         text = h .text;
         ready = record {
           fits = record {
-            wide = still-wide here then out out′ (ready .fits .wide) (ready .size) k out-then;
+            wide = still-wide here then out out′ (ready .fits .wide) (ready .size) sized-then out-then;
             begun = ready .fits .begun;
             line = ready .fits .line;
-            sound = rw table-whole (rounds-sound (h .rests));
+            sound = rw table-whole (rounds-sound (paid .rests));
           };
           size = ready .size;
         };
-        paid = λ u. rw (table-whole, working) (rounds-owed (lineOf here ++ (drop from piece ++ u)) (h .text) (h .free) m′ (told .«record») (h .rests) turns (h .whole));
+        paid = λ u. rw (table-whole, working) (rounds-owed (lineOf here ++ (drop from piece ++ u)) (h .text) (length out - printed - length (h .text)) m′ (told .«record») (paid .rests) turns (paid .whole));
         shown = h .shown;
         next = h .place;
-        within = omega (arith, h .room, out-then);
+        within = omega (arith, h .place, paid .few, space .room, out-then);
       };
       goes = running.works turns working then-worked;
-      onward = λ z. omega (arith, at-work, out-then, rounds-less (h .rests) (told .printed) (space .room) (omega (arith, h .place)) (h .room));
+      onward = λ z. omega (arith, at-work, out-then, rounds-less (paid .rests) (told .printed) (space .room) (omega (arith, h .place)) (omega (arith, h .place, paid .few, space .room)));
       idle = λ z. absurd (true≢false z);
       used = λ z. absurd (true≢false z);
     }

@@ -1,3 +1,5 @@
+pub mod Answering
+pub mod Beginning
 pub mod Bounds
 pub mod Cutting
 pub mod Faring

@@ -17,13 +17,12 @@ use Rattle.owing.specs.declared.Mode.{Mode}
 use Rattle.owing.specs.declared.Mode.the-variants.{Working, Stopped}
 use Rattle.desk.specs.declared.State.{State}
 use Rattle.desk.specs.Desk.{Desk}
-use Rattle.desk.specs.Ending.{silent}
 use Rattle.desk.specs.Gathering.{Gathers}
 use Rattle.pieces.specs.declared.Fed.{Fed}
 use Rattle.pieces.specs.declared.Fed.the-variants.{Taken, Refused}
 use Rattle.pieces.specs.Feeding.{Feeds, FeedSays, takes, refuses}
 use Rattle.pieces.specs.Unique.{Lent, deskOf, FeedsOne}
-use Rattle.pieces.specs.Running.{Moment, afterRounds, roundsThen, afterBytes, heardThen, afterLine, Goes, over, works, waits, hears, Runs, full, last, on}
+use Rattle.pieces.specs.Running.{Moment, silent, afterRounds, roundsThen, afterBytes, heardThen, afterLine, Goes, over, works, waits, hears, Runs, full, last, on}
 
 -- ---- bytes that are gathered: b those of the begun line, d those of the piece
 

@@ -1,16 +1,19 @@
--- However the bytes arrive: for every way of cutting a text into pieces, the pieces' outputs joined are the text's output. Assumes nothing.
+-- However the bytes arrive: for every way of cutting a text into pieces, the pieces' outputs joined are the text's output, and there is always one.
+-- Proved in proofs/Beginning, proofs/Cutting and proofs/Answering. Assumes nothing.
 use mathlib.Core.Path.{_≡_}
-use mathlib.Core.Bool.{true, false}
+use mathlib.Core.Bool.{Bool, true, false}
+use mathlib.Core.Logic.{_↔_}
 use mathlib.Core.List.{List, [], _∷_, _++_}
-use Prim.Native.Nat.{ℕ, _≤_}
-use lib.ListN.{length, replicate}
+use Prim.Native.Nat.{ℕ, suc, _*_, _≤_}
+use lib.ListN.{length, drop, replicate}
 use Rattle.session.specs.Session.{session, ownMemory}
-use Rattle.owing.specs.declared.Mode.{Mode}
 use Rattle.owing.specs.declared.Mode.the-variants.{Table}
 use Rattle.frames.specs.declared.Expected.the-variants.{AtHeader}
-use Rattle.desk.specs.Desk.{Desk, Fits, tableOf, lineOf}
+use Rattle.desk.specs.Desk.{Desk, desk, firstState, Fits, tableOf, lineOf, owedFor}
 use Rattle.desk.specs.Ending.{lastText}
 use Rattle.pieces.specs.Feeding.{Feeds}
+
+-- ---- the beginning
 
 -- a session that has read nothing
 pub record Starts (d : Desk) (out : List ℕ) : Type 0 where
@@ -21,21 +24,94 @@ pub record Starts (d : Desk) (out : List ℕ) : Type 0 where
   pub words : tableOf d ≡ replicate 2657 0
   pub memory : d .memory ≡ ownMemory
 
--- one piece from a place on: calls in a row while there is more to do, each of which goes on where the last stopped
-pub data Piece : Desk → List ℕ → ℕ → List ℕ → Desk → Type 0 where
-  last : {d d′ : Desk} {piece : List ℕ} {from place printed : ℕ} {out out′ : List ℕ} (f : Feeds d piece from out d′ place printed false out′) → Piece d piece from (f .text) d′
-  more : {d d′ d″ : Desk} {piece text : List ℕ} {from place printed : ℕ} {out out′ : List ℕ} (f : Feeds d piece from out d′ place printed true out′)
-      → Piece d′ piece place text d″ → Piece d piece from (f .text ++ text) d″
+-- what the program begins with: the first state, zeroed memory that is just long enough, and a zeroed buffer to print into
+abbrev pub firstDesk : Desk
+firstDesk = desk (replicate 2657 0) (replicate 29 0) (replicate 513 0) (replicate 513 0) ownMemory firstState
 
--- pieces in a row, and the end of the input
-pub data Pieces : Desk → List (List ℕ) → List ℕ → Type 0 where
-  ends : {d : Desk} → Pieces d [] (lastText (d .state))
-  next : {d d′ : Desk} {piece text rest : List ℕ} {pieces : List (List ℕ)} → Piece d piece 0 text d′ → Pieces d′ pieces rest → Pieces d (piece ∷ pieces) (text ++ rest)
+unfoldable pub firstOut : List ℕ
+firstOut = replicate 131072 0
+
+-- so that there is such a session
+abbrev pub ProgramStarts : Type 0
+ProgramStarts = Starts firstDesk firstOut
+
+-- ---- one call
+
+-- an answer, and what it leaves
+pub record Answered (d : Desk) (piece : List ℕ) (from : ℕ) (out : List ℕ) : Type 0 where
+  pub then : Desk
+  pub place : ℕ
+  pub printed : ℕ
+  pub more : Bool
+  pub left : List ℕ
+  pub feeds : Feeds d piece from out then place printed more left
+
+-- every desk that a session comes to has one, for every piece and place, with any buffers that are long enough
+abbrev pub AlwaysAnswered : Type 0
+AlwaysAnswered = (d : Desk) (piece : List ℕ) (from : ℕ) (out : List ℕ) → Fits d out → Answered d piece from out
+
+-- ---- calls in a row
+
+-- which buffer is lent to print into, where the last call left o: the program lends the same one again, another caller may lend any
+abbrev pub Again : List ℕ → List ℕ → Type 0
+Again o o′ = o′ ≡ o
+
+-- one that is long enough can always be lent
+abbrev pub Lending : (List ℕ → List ℕ → Type 0) → Type 0
+Lending Lends = (o : List ℕ) → 131072 ≤ length o → (o′ : List ℕ) × Lends o o′ × (131072 ≤ length o′)
+
+module _ (Lends : List ℕ → List ℕ → Type 0) where
+  -- calls on one piece, each of which goes on where the last stopped: n of them, and all answer that there is more to do
+  pub data Calls (d : Desk) (out piece : List ℕ) (from : ℕ) : ℕ → List ℕ → Desk → List ℕ → ℕ → Type 0 where
+    none : Calls d out piece from 0 [] d out from
+    more : {n : ℕ} {text : List ℕ} {e d′ : Desk} {o lent out′ : List ℕ} {at place printed : ℕ} → Calls d out piece from n text e o at → Lends o lent
+        → (f : Feeds e piece at lent d′ place printed true out′) → Calls d out piece from (suc n) (text ++ f .text) d′ out′ place
+
+  -- the whole piece from a place on: n such calls, and one that leaves nothing to do
+  pub data Piece (d : Desk) (out piece : List ℕ) (from : ℕ) : ℕ → List ℕ → Desk → List ℕ → Type 0 where
+    last : {n : ℕ} {text : List ℕ} {e d′ : Desk} {o lent out′ : List ℕ} {at place printed : ℕ} → Calls d out piece from n text e o at → Lends o lent
+        → (f : Feeds e piece at lent d′ place printed false out′) → Piece d out piece from n (text ++ f .text) d′ out′
+
+  -- pieces in a row, and the end of the input
+  pub data Pieces : Desk → List ℕ → List (List ℕ) → List ℕ → Type 0 where
+    ends : {d : Desk} {out : List ℕ} → Pieces d out [] (lastText (d .state))
+    next : {d d′ : Desk} {out out′ piece text rest : List ℕ} {n : ℕ} {pieces : List (List ℕ)} → Piece d out piece 0 n text d′ out′ → Pieces d′ out′ pieces rest
+        → Pieces d out (piece ∷ pieces) (text ++ rest)
+
+-- a call that leaves something to do has printed more than 36,864 bytes of what is owed: so many of them there are at the most
+abbrev pub CallsEnd : Type 1
+CallsEnd = (Lends : List ℕ → List ℕ → Type 0) (d : Desk) (out piece : List ℕ) (from n : ℕ) (text : List ℕ) (d′ : Desk) (out′ : List ℕ) (place : ℕ)
+    → Calls Lends d out piece from n text d′ out′ place → 36865 * n ≤ length (owedFor d (drop from piece))
+
+-- so each piece comes to its end, behind so many calls at the most
+pub record Ended (Lends : List ℕ → List ℕ → Type 0) (d : Desk) (out piece : List ℕ) (from : ℕ) : Type 0 where
+  pub again : ℕ
+  pub text : List ℕ
+  pub then : Desk
+  pub left : List ℕ
+  pub taken : Piece Lends d out piece from again text then left
+  pub few : 36865 * again ≤ length (owedFor d (drop from piece))
+
+abbrev pub PieceEnds : Type 1
+PieceEnds = (Lends : List ℕ → List ℕ → Type 0) → Lending Lends → (d : Desk) (out piece : List ℕ) (from : ℕ) → Fits d out → Ended Lends d out piece from
+
+-- ---- pieces in a row
 
 -- the pieces joined
 unfoldable pub joined : List (List ℕ) → List ℕ
 joined [] = []
 joined (piece ∷ pieces) = piece ++ joined pieces
 
-abbrev pub HoweverCut : Type 0
-HoweverCut = (d : Desk) (out : List ℕ) (pieces : List (List ℕ)) (text : List ℕ) → Starts d out → Pieces d pieces text → text ≡ session (joined pieces)
+-- whatever buffers are lent, every output is the session's
+abbrev pub HoweverCut : Type 1
+HoweverCut = (Lends : List ℕ → List ℕ → Type 0) (d : Desk) (out : List ℕ) (pieces : List (List ℕ)) (text : List ℕ) → Starts d out → Pieces Lends d out pieces text
+    → text ≡ session (joined pieces)
+
+-- and where buffers can be lent, the session's output is the output
+abbrev pub AlwaysCut : Type 1
+AlwaysCut = (Lends : List ℕ → List ℕ → Type 0) → Lending Lends → (d : Desk) (out : List ℕ) (pieces : List (List ℕ)) → Starts d out
+    → Pieces Lends d out pieces (session (joined pieces))
+
+-- the program, which lends one buffer again and again: for every list of pieces there is an output, the session's and no other
+abbrev pub EveryCutting : Type 0
+EveryCutting = (pieces : List (List ℕ)) (text : List ℕ) → Pieces Again firstDesk firstOut pieces text ↔ (text ≡ session (joined pieces))

@@ -8,9 +8,9 @@ use lib.Seq.{sets}
 use Rattle.frames.specs.Frames.{frameAt, lineAfter}
 use Rattle.owing.specs.Hearing.{Heard, hearing, Spacious}
 use Rattle.telling.specs.Telling.{Worked, stepsWithin}
-use Rattle.owing.specs.declared.Mode.the-variants.{Working, Stopped}
+use Rattle.owing.specs.declared.Mode.{Mode}
+use Rattle.owing.specs.declared.Mode.the-variants.{Table, Command, Nodes, Working, Stopped}
 use Rattle.desk.specs.Desk.{Desk, desk, tableOf}
-use Rattle.desk.specs.Ending.{silent}
 use Rattle.desk.specs.Gathering.{Gathers}
 
 -- between two turns: the desk, how far the piece is taken, the buffer, and how much of it is printed
@@ -60,6 +60,14 @@ module _ (p : Moment) where
   afterLine place w h =
       printing (h .text) place
       (desk (h .words) w (h .parts) (h .partOwns) (h .memory) (record { mode = h .mode; begun = 0; line = lineAfter (p .here .state .line); «record» = h .next }))
+
+-- no line is waited for
+abbrev pub silent : Mode → Bool
+silent (Table x) = false
+silent Command = false
+silent (Nodes order count taken command) = false
+silent (Working turns) = true
+silent Stopped = true
 
 -- a turn, and whether there is more to do behind it
 pub data Goes (piece : List ℕ) (p q : Moment) : Bool → Type 0 where

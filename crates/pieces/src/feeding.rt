@@ -27,9 +27,9 @@ ghost use Rattle.owing.specs.Owed.{Sound};
 ghost use Rattle.owing.specs.Hearing.{hearing, Hears, Spacious};
 ghost use Rattle.telling.specs.Telling.{RoundsTold};
 ghost use Rattle.desk.specs.Desk.{desk, Tests};
-ghost use Rattle.desk.specs.Ending.{silent};
 ghost use Rattle.pieces.specs.Feeding.{Feeds, FeedSays};
 ghost use Rattle.pieces.specs.Faring.{Ready, Turns};
+ghost use Rattle.pieces.specs.Running.{silent};
 
 // What a turn leads to: how far the piece is taken, where the next byte is printed, and whether there is more to do.
 struct Turned {

@@ -5,3 +5,7 @@ pub mod Growing
 pub mod Copying
 pub mod Planted
 pub mod Regrown
+pub mod Unique
+pub mod Refusing
+pub mod Lines
+pub mod Reading

@@ -14,7 +14,8 @@ ghost use Rattle.refusal.specs.Numbers.{verdictOf};
 ghost use Rattle.table.specs.First.{firstOf};
 ghost use Rattle.table.specs.Judge.{judgeTable};
 ghost use Rattle.planting.specs.Planting.{nodesAt, treeAt};
-ghost use Rattle.planting.specs.Growing.{fitted, plantingAt, treeAnswer, productionsAfter, ownsAfter, stray, Stored, keptNumbers};
+ghost use Rattle.planting.specs.Growing.{fitted, treeAnswer, productionsAfter, ownsAfter, stray, Stored, keptNumbers};
+ghost use Rattle.planting.specs.Calls.{ReadTreeSays};
 
 // A frame where another is expected: its own refusal is passed on, else 14.
 fn no_node(frame: Frame, line: u32) -> ReadTree
@@ -209,7 +210,7 @@ pub fn read_tree(
     productions: &mut [u8],
     owns: &mut [u64],
 ) -> ReadTree
-    ensures { λ r. ⌜ (r ≡ treeAnswer (plantingAt (now (table .entry)) (now (text .entry)) place line (length (now (productions .entry))) (length (now (owns .entry))))) × ((now (productions .exit) ≡ productionsAfter (plantingAt (now (table .entry)) (now (text .entry)) place line (length (now (productions .entry))) (length (now (owns .entry)))) (now (productions .entry))) × (now (owns .exit) ≡ ownsAfter (plantingAt (now (table .entry)) (now (text .entry)) place line (length (now (productions .entry))) (length (now (owns .entry)))) (now (owns .entry)))) ⌝ }
+    ensures { λ r. ⌜ ReadTreeSays (now (table .entry)) (now (text .entry)) place line (now (productions .entry)) (now (owns .entry)) r (now (productions .exit)) (now (owns .exit)) ⌝ }
 {
     match judge_table(table) {
         Verdict::Sound => read_judged(table, text, place, line, productions, owns),

@@ -4,14 +4,13 @@ use refusal::Refusal;
 use refusal::Verdict;
 use tree::judge_tree;
 ghost use mathlib.Core.Path.{_≡_};
-ghost use Prim.Native.Nat.{_+_, _*_, _<_, _≤_, _^_};
+ghost use Prim.Native.Nat.{_+_, _*_, _<_, _≤_};
 ghost use lib.ListN.{length};
 ghost use lib.Seq.{sets};
-ghost use Rattle.tree.specs.Refusals.{treeRefusal};
-ghost use Rattle.frames.specs.declared.Frame.the-variants.{Node, Load};
+ghost use Rattle.frames.specs.declared.Frame.the-variants.{Node};
 ghost use Rattle.frames.specs.Text.{textOf};
 ghost use Rattle.planting.specs.Text.{treeText};
-ghost use Rattle.planting.specs.Written.{writtenOf, bufferAfter};
+ghost use Rattle.planting.specs.Calls.{WriteTreeSays};
 
 fn wide(x: u8) -> u64
     ensures { λ r. ⌜ (r ≡ x) × (r < 256) ⌝ }
@@ -49,7 +48,7 @@ pub fn write_tree(
     owns: &[u64],
     buffer: &mut [u8],
 ) -> Written
-    ensures { λ r. ⌜ (r ≡ writtenOf (treeRefusal (now (table .entry)) (now (productions .entry)) (now (owns .entry))) (length (now (buffer .entry))) (treeText (now (productions .entry)) (now (owns .entry)))) × (now (buffer .exit) ≡ bufferAfter (treeRefusal (now (table .entry)) (now (productions .entry)) (now (owns .entry))) (now (buffer .entry)) (treeText (now (productions .entry)) (now (owns .entry)))) ⌝ }
+    ensures { λ r. ⌜ WriteTreeSays (now (table .entry)) (now (productions .entry)) (now (owns .entry)) (now (buffer .entry)) r (now (buffer .exit)) ⌝ }
 {
     match judge_tree(table, productions, owns) {
         Verdict::Sound => {

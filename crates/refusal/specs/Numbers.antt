@@ -1,4 +1,5 @@
 -- The number of each refusal, as the table "Refusal numbers" of document 01 gives it. Assumes nothing.
+use mathlib.Core.Path.{_≡_}
 use Prim.Native.Nat.{ℕ}
 use Rattle.refusal.specs.declared.Refusal.{Refusal}
 use Rattle.refusal.specs.declared.Refusal.the-variants.{Count, Symbol, Start, Form, Argument, Production, Shape, Size, Point, Busy, Fields, Undeclared, Line, Frame, Buffer, Absent, Idle}
@@ -28,3 +29,7 @@ numberOf Idle = 17
 abbrev pub verdictOf : Verdict → ℕ
 verdictOf Sound = 0
 verdictOf (Refused r) = numberOf r
+
+-- ---- what `number` promises: of a refusal, its number
+abbrev pub NumberSays : Refusal → ℕ → Type 0
+NumberSays refusal a = a ≡ numberOf refusal

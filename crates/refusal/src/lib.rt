@@ -1,6 +1,5 @@
 // The refusals of document 01, one name a number, and what a checker answers.
-ghost use mathlib.Core.Path.{_≡_};
-ghost use Rattle.refusal.specs.Numbers.{numberOf};
+ghost use Rattle.refusal.specs.Numbers.{NumberSays};
 
 pub enum Refusal {
     // 1: a table count is outside its limit
@@ -46,7 +45,7 @@ pub enum Verdict {
 }
 
 pub fn number(refusal: Refusal) -> u8
-    ensures { λ r. ⌜ r ≡ numberOf refusal ⌝ }
+    ensures { λ r. ⌜ NumberSays refusal r ⌝ }
 {
     match refusal {
         Refusal::Count => 1,

@@ -1,2 +1,4 @@
 pub mod Session
 pub mod Example
+pub mod Lines
+pub mod Commands

@@ -1,4 +1,5 @@
 -- "A set is 64 bits: reason code n is bit n, and 0 is the empty set." Assumes nothing.
+use mathlib.Core.Path.{_≡_}
 use Prim.Native.Nat.{ℕ, zero, suc, _/_, _%_, _≤_}
 use lib.Count.{ones}
 
@@ -19,3 +20,10 @@ membersOf a = ones a
 -- the count that operation 7 compares with its constant: all members
 abbrev pub countOf : ℕ → ℕ
 countOf a = ones a
+
+-- ---- what `members` and `count` promise: of a set, how many members it has, and how many operation 7 counts
+abbrev pub MembersSay : ℕ → ℕ → Type 0
+MembersSay s a = a ≡ membersOf s
+
+abbrev pub CountSays : ℕ → ℕ → Type 0
+CountSays s a = a ≡ countOf s

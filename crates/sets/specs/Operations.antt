@@ -1,10 +1,12 @@
 -- The value of each operation: own is the left node's own set, a and b are the values of its arguments. Assumes nothing.
+use mathlib.Core.Path.{_≡_}
 use mathlib.Core.Bool.{Bool, cond}
 use Prim.Native.Nat.{ℕ}
 use lib.Dec.{leb, eqb}
 use lib.Bits.{bitAnd, bitOr}
 use Rattle.sets.specs.declared.Op.{Op}
 use Rattle.sets.specs.declared.Op.the-variants.{Constant, Own, JoinConstant, MeetConstant, Join, Meet, IfAll, IfMany, JoinOwn}
+use Rattle.sets.specs.declared.Equation.{Equation}
 use Rattle.sets.specs.Members.{countOf}
 
 -- every member of c is in a
@@ -23,3 +25,7 @@ valueOf (Meet _ _) own a b = bitAnd a b
 valueOf (IfAll _ _ c) own a b = cond (within c a) b 0
 valueOf (IfMany _ _ c) own a b = cond (leb c (countOf a)) b 0
 valueOf (JoinOwn _) own a b = bitOr a own
+
+-- what `value` promises: of an equation, a node's own set and the values of its arguments, the equation's value
+abbrev pub ValueSays : Equation → ℕ → ℕ → ℕ → ℕ → Type 0
+ValueSays equation own a b v = v ≡ valueOf (equation .op) own a b

@@ -1,7 +1,6 @@
 // Sets of hold reasons, and the equations over them. A set is 64 bits: reason code n is bit n, and 0 is the empty set.
-ghost use mathlib.Core.Path.{_≡_};
-ghost use Rattle.sets.specs.Members.{membersOf, countOf};
-ghost use Rattle.sets.specs.Operations.{valueOf};
+ghost use Rattle.sets.specs.Members.{MembersSay, CountSays};
+ghost use Rattle.sets.specs.Operations.{ValueSays};
 
 // An argument is a position, 0 the left symbol and 1 to 4 a child, and an index declared there.
 pub struct Argument {
@@ -38,21 +37,21 @@ pub struct Equation {
 
 // How many members a set has: what bounds the rounds of a climb.
 pub fn members(a: u64) -> u64
-    ensures { λ r. ⌜ r ≡ membersOf a ⌝ }
+    ensures { λ r. ⌜ MembersSay a r ⌝ }
 {
     u64::count_ones(a) as u64
 }
 
 // The number that operation 7 compares with c. It is another name than `members`: a rule book may leave codes out of it.
 pub fn count(a: u64) -> u64
-    ensures { λ r. ⌜ r ≡ countOf a ⌝ }
+    ensures { λ r. ⌜ CountSays a r ⌝ }
 {
     members(a)
 }
 
 // The value of an equation where the left node's own set is `own` and its arguments are `a` and `b`.
 pub fn value(equation: Equation, own: u64, a: u64, b: u64) -> u64
-    ensures { λ r. ⌜ r ≡ valueOf (equation .op) own a b ⌝ }
+    ensures { λ r. ⌜ ValueSays equation own a b r ⌝ }
 {
     let op = equation.op;
     match op {

@@ -1,8 +1,11 @@
 -- The judgement of a table: frame by frame, at one frame by the lowest number. Assumes nothing.
 use Prim.Native.Nat.{ℕ, zero, suc, _/_, _%_}
+use mathlib.Core.Path.{_≡_}
 use mathlib.Core.Bool.{Bool, true, false, not, _&&_, _||_}
 use mathlib.Core.List.{List, [], _∷_, _++_}
 use lib.Dec.{leb, ltb, eqb}
+use Rattle.refusal.specs.Numbers.{verdictOf}
+use Rattle.refusal.specs.declared.Verdict.{Verdict}
 use Rattle.table.specs.First.{orElse, first, row, someBelow, lowest, scan}
 use Rattle.table.specs.Words.{symbolCount, productionCount, synthesized, inherited, childCount, symbolAt, defined, occurs, ruleOf, headAt, constantAt}
 use Rattle.table.specs.Equations.{opNumber, aField, bField, usesA, usesB, misformed}
@@ -77,3 +80,7 @@ refusalAt t x = lowest 1 (conditions t x)
 -- the refusal number of a table, 0 where it is sound
 unfoldable pub judgeTable : List ℕ → ℕ
 judgeTable t = first (refusalAt t) (frames t)
+
+-- what `judge_table` promises: a verdict whose number is the table's
+abbrev pub JudgeTableSays : List ℕ → Verdict → Type 0
+JudgeTableSays t a = verdictOf a ≡ judgeTable t

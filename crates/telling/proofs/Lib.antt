@@ -1,3 +1,4 @@
 pub mod Answering
+pub mod Paying
 pub mod Stepped
 pub mod Turning

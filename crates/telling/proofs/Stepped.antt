@@ -10,20 +10,22 @@ use borrow.Author.Tests.{ltb-true, eq-eqb}
 use lib.Dec.{ltb, eqb}
 use lib.ListN.{length, getD}
 use lib.Seq.{length-slice}
-use Rattle.circles.specs.Ranked.{member, keep, upFrom}
+use Rattle.circles.specs.Ranked.{member, keep, upFrom, loneOf}
 use Rattle.circles.proofs.Lists.{and-parts, or-one, length-up}
 use Rattle.circles.proofs.Ranking.{keep-le}
-use Rattle.climb.specs.System.{System}
+use Rattle.climb.specs.System.{System, graphOf}
 use Rattle.climb.specs.Circuit.{circleAt}
 use Rattle.climb.specs.Memory.{at}
 use Rattle.climb.specs.Wired.{wired}
 use Rattle.climb.proofs.Lists.{either}
+use Rattle.climb.proofs.Storing.{length-stores}
 use Rattle.update.specs.declared.Record.{Record}
 use Rattle.update.specs.Records.{isLoad, shut}
 use Rattle.update.specs.Within.{WithinLimits}
-use Rattle.update.specs.Steps.{Outcome, round, done, Made, survives, changedOf, roundNumber, roundRecord, roundMade, doneMade, dueFrom, stepOf}
+use Rattle.update.specs.Steps.{Outcome, round, done, Made, survives, changedOf, roundNumber, fromOf, toOf, roundRecord, roundMade, doneMade, dueFrom, stepOf}
 use Rattle.update.specs.Calls.{said}
 use Rattle.rounds.specs.Arranged.{circlesIn, Circles}
+use Rattle.rounds.proofs.Rounding.{length-ready}
 use Rattle.telling.specs.Telling.{Printable}
 
 -- ---- what stays in the record
@@ -32,26 +34,32 @@ abbrev pub isDone : Outcome → Bool
 isDone (round a k n c) = false
 isDone (done a b c) = true
 
-pub record Keeps (r : Record) (m : Made) : Type 0 where
+pub record Keeps (r : Record) (s : List ℕ) (m : Made) : Type 0 where
   pub held : m .next .held ≡ r .held
   pub nodes : m .next .nodes ≡ r .nodes
   pub busy : isDone (m .outcome) ≡ false → m .next .«open» ≡ r .«open»
+  pub size : length (m .sets) ≡ length s
 
-round-kept : (r : Record) (i k n x : ℕ) (s : List ℕ) (t : Bool) → Keeps r (record { outcome = round x k n t; next = roundRecord r i k n t; sets = s })
+round-kept : (r : Record) (i k n x : ℕ) (s s′ : List ℕ) (t : Bool) → length s′ ≡ length s → Keeps r s (record { outcome = round x k n t; next = roundRecord r i k n t; sets = s′ })
 unfolding roundRecord
-round-kept r i k n x s true = record { held = refl; nodes = refl; busy = λ e. refl }
-round-kept r i k n x s false = record { held = refl; nodes = refl; busy = λ e. refl }
+round-kept r i k n x s s′ true l = record { held = refl; nodes = refl; busy = λ e. refl; size = l }
+round-kept r i k n x s s′ false l = record { held = refl; nodes = refl; busy = λ e. refl; size = l }
 
-done-kept : (r : Record) (x y z : ℕ) (s : List ℕ) → Keeps r (record { outcome = done x y z; next = shut (r .held) (r .nodes); sets = s })
+done-kept : (r : Record) (x y z : ℕ) (s : List ℕ) → Keeps r s (record { outcome = done x y z; next = shut (r .held) (r .nodes); sets = s })
 unfolding shut
-done-kept r x y z s = record { held = refl; nodes = refl; busy = λ e. absurd (true≢false e) }
+done-kept r x y z s = record { held = refl; nodes = refl; busy = λ e. absurd (true≢false e); size = refl }
 
-pub step-keeps : (S : System) (R : List (List ℕ)) (r : Record) (b s : List ℕ) → Keeps r (stepOf S R r b s)
+-- a round writes over the sets of its circle
+round-long : (S : System) (C : List ℕ) (k : ℕ) (s : List ℕ) → length (toOf S C (fromOf S C k s)) ≡ length s
+unfolding fromOf toOf
+round-long S C k s = length-stores C (fromOf S C k s) (S .eval (at (fromOf S C k s))) ∙ length-ready k (loneOf (graphOf S) C) s C (fromOf S C k s) refl
+
+pub step-keeps : (S : System) (R : List (List ℕ)) (r : Record) (b s : List ℕ) → Keeps r s (stepOf S R r b s)
 unfolding stepOf roundMade doneMade
 step-keeps S R r b s =
     let i = dueFrom S R r b s in
     ⊎-elim
-    (λ (h : ltb (dueFrom S R r b s) (length R) ≡ true). rw h (round-kept r i (roundNumber r i) (length (circleAt R i)) (getD (circleAt R i) 0 0) _ _))
+    (λ (h : ltb (dueFrom S R r b s) (length R) ≡ true). rw h (round-kept r i (roundNumber r i) (length (circleAt R i)) (getD (circleAt R i) 0 0) s _ _ (round-long S (circleAt R i) (roundNumber r i) s)))
     (λ (h : ltb (dueFrom S R r b s) (length R) ≡ false). rw h (done-kept r (r .circles) (r .evaluations) (changedOf S r b s) s)) (either (ltb i (length R)))
 
 -- ---- its numbers fit

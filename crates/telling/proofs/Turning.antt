@@ -1,11 +1,10 @@
 -- Step by step what is left of an update's steps. Assumes nothing.
 use mathlib.Core.Path.{_≡_, refl, sym, ap, _∙_, subst}
-use mathlib.Core.Bool.{Bool, true, false, cond}
+use mathlib.Core.Bool.{Bool}
 use mathlib.Core.List.{List, [], _∷_, _++_, append-assoc, append-nil}
 use Prim.Native.Nat.{ℕ, zero, suc, _+_, _-_, _≤_, _<_}
 use native.Mathlib.Omega.{arith}
-use borrow.Author.Tests.{lt-ltb, le-ltb}
-use lib.Dec.{ltb}
+use borrow.Author.Tests.{lt-ltb}
 use lib.ListN.{length, take, length-append}
 use lib.Seq.{sets}
 use types.Run.{OneOf, miss}
@@ -16,71 +15,22 @@ use Rattle.update.specs.declared.Record.{Record}
 use Rattle.update.specs.declared.Answer.{Answer}
 use Rattle.update.specs.declared.Answer.the-variants.{Round, Done, Refused}
 use Rattle.update.proofs.Answer as A
-use Rattle.update.specs.Records.{isOpen}
 use Rattle.update.specs.Memories.{Memory}
-use Rattle.update.specs.Refusals.{heldRefusal}
-use Rattle.update.specs.Within.{WithinLimits}
-use Rattle.update.specs.Steps.{Outcome, round, done, Made, stepOf}
-use Rattle.update.specs.Calls.{Said, said, answerSays, Left, withSets, stepCall}
+use Rattle.update.specs.Steps.{round, done, Made, stepOf}
+use Rattle.update.specs.Calls.{said, answerSays, stepCall}
 use Rattle.rounds.specs.Arranged.{circlesIn}
 use Rattle.steps.specs.Says.{StepSays}
 use Rattle.engine.specs.Lent.{lent, stepped}
-use Rattle.judging.specs.Order.{Grounded, Holding, Going}
+use Rattle.judging.specs.Order.{Going}
 use Rattle.engine.specs.Prepared.{Holds}
 use Rattle.engine.proofs.Stepping.{step-carried}
-use Rattle.session.specs.Session as session
-use Rattle.session.specs.Session.{stepThen, stepsTold, before, outcomeText}
-use Rattle.telling.specs.Telling.{AnswerPut, Worked, behindText, stepWithin, stepsWithin, Rests, ended, full, TurnsTold}
+use Rattle.session.specs.Session.{outcomeText}
+use Rattle.telling.specs.Telling.{AnswerPut, Worked, behindText, stepWithin, stepsWithin, TurnsTold}
 use Rattle.owing.specs.declared.Mode.the-variants.{Command, Working}
 use Rattle.owing.specs.declared.Told.{Told}
-use Rattle.telling.proofs.Stepped.{isDone, step-keeps}
+use Rattle.telling.proofs.Paying.{within-next, round-going, same-nodes}
 
--- ---- what a step leaves can be worked on, or is held
-
-module _ (t : List ℕ) (m : Memory) (r d : Record) (s : List ℕ) (g : Going t m r) (w : WithinLimits d) (long : length s ≡ length (m .sets)) where
-  ground-next : Grounded t (withSets m s) d
-  ground-next = record {
-    table = g .ground .table;
-    room = record {
-      productions = g .ground .room .productions;
-      owns = g .ground .room .owns;
-      sets = omega (arith, g .ground .room .sets);
-      before = g .ground .room .before;
-    };
-    within = w;
-  }
-
-  tree-next : d .nodes ≡ r .nodes → heldRefusal t (withSets m s) d ≡ 0
-  tree-next e = rw e (g .tree)
-
-  pub going-next : d .nodes ≡ r .nodes → d .held ≡ r .held → d .«open» ≡ r .«open» → Going t (withSets m s) d
-  going-next e h o = record { ground = ground-next; held = h ∙ g .held; tree = tree-next e; busy = ap isOpen o ∙ g .busy }
-
-  pub holding-next : d .nodes ≡ r .nodes → Holding t (withSets m s) d
-  holding-next e = record { ground = ground-next; tree = λ h. tree-next e }
-
-pub going-holds : {t : List ℕ} {m : Memory} {r : Record} → Going t m r → Holding t m r
-going-holds g = record { ground = g .ground; tree = λ h. g .tree }
-
--- ---- one step of those that are told
-
-pub steps-next : (k : ℕ) (t : List ℕ) (r : Record) (m : Memory) (a : Answer) (d : Record) (m′ : Memory) → stepped a d m′ ≡ stepCall t m r
-    → stepsTold (suc k) t r m ≡ stepThen (answerSays a) d m′ (stepsTold k t)
-unfolding stepsTold
-steps-next k t r m a d m′ e = ap (λ (l : Left (Said Outcome)). stepThen (l .answer) (l .next) (l .memory) (stepsTold k t)) (sym e)
-
-pub within-next : (k room : ℕ) (t : List ℕ) (r : Record) (m : Memory) (a : Answer) (d : Record) (m′ : Memory) → stepped a d m′ ≡ stepCall t m r → 19 ≤ room
-    → stepsWithin (suc k) room t r m ≡ stepWithin (answerSays a) d m′ (stepsWithin k (room - 19) t)
-unfolding stepsWithin
-within-next k room t r m a d m′ e h =
-    rw (le-ltb room 19 h) (ap (λ (l : Left (Said Outcome)). stepWithin (l .answer) (l .next) (l .memory) (stepsWithin k (room - 19) t)) (sym e))
-
-pub before-before : (x y : List ℕ) (told : session.Told) → before x (before y told) ≡ before (x ++ y) told
-before-before x y told j = record { text = sym (append-assoc x y (told .text)) j; next = told .next; memory = told .memory }
-
-pub before-last : (x y : List ℕ) (r : Record) (m : Memory)
-    → _≡_ {A = session.Told} (before x (record { text = y; next = r; memory = m })) (before (x ++ y) (record { text = []; next = r; memory = m }))
-before-last x y r m j = record { text = sym (append-nil (x ++ y)) j; next = r; memory = m }
+-- ---- texts behind each other
 
 behind-behind : (x y : List ℕ) (w : Worked) → behindText x (behindText y w) ≡ behindText (x ++ y) w
 behind-behind x y w j = record { text = sym (append-assoc x y (w .text)) j; mode = w .mode; next = w .next; memory = w .memory }
@@ -98,22 +48,12 @@ unfolding stepsWithin
 within-over zero room t r m text l = λ j. record { text = append-nil text j; mode = Command; next = r; memory = m }
 within-over (suc k) room t r m text l = absurd (omega arith)
 
-pub full-rests : {t : List ℕ} {m : Memory} {r : Record} {free : ℕ} (still : ℕ) → 0 < still → Going t m r → free < 19 → Rests t m r free (Working still) (stepsTold still t r m)
-full-rests zero l g h = absurd (omega arith)
-full-rests (suc k) l g h = full k refl g h
-
-pub none-rests : {t : List ℕ} {m : Memory} {r : Record} {free : ℕ} (still : ℕ) → still ≤ 0 → Going t m r → Rests t m r free Command (stepsTold still t r m)
-unfolding stepsTold
-none-rests zero l g = ended refl (going-holds g)
-none-rests (suc k) l g = absurd (omega arith)
-
 -- ---- the loop
 
 module _ (t owns : List ℕ) (n : ℕ) (a b left rule label members ends : List ℕ) (count : ℕ) (olds s₀ : List ℕ) (r₀ : Record) (turns printed : ℕ) (out₀ : List ℕ) where
   -- some of the text stands in the buffer, and what is left of the steps gives the rest
   pub record Come (held heldOwns : List ℕ) (still place : ℕ) (work : Record) (s out : List ℕ) : Type 0 where
     pub text : List ℕ
-    pub whole : stepsTold turns t r₀ (lent held heldOwns s₀ olds) ≡ before text (stepsTold still t work (lent held heldOwns s olds))
     pub within : stepsWithin turns (length out₀ - printed) t r₀ (lent held heldOwns s₀ olds) ≡ behindText text (stepsWithin still (length out₀ - place) t work (lent held heldOwns s olds))
     pub shown : out ≡ sets out₀ printed text
     pub behind : place ≡ printed + length text
@@ -129,7 +69,7 @@ module _ (t owns : List ℕ) (n : ℕ) (a b left rule label members ends : List 
   Tells told s out = TurnsTold t owns n a b left rule label members ends count olds s₀ r₀ turns printed out₀ told s out
 
   pub turn-first : Turn turns printed r₀ s₀ out₀
-  turn-first = record { come = λ held heldOwns g o h. record { text = []; whole = refl; within = refl; shown = refl; behind = omega arith; going = g; nodes = refl } }
+  turn-first = record { come = λ held heldOwns g o h. record { text = []; within = refl; shown = refl; behind = omega arith; going = g; nodes = refl } }
 
   abbrev madeFrom : Record → List ℕ → Made
   madeFrom r s = stepOf (wired n t owns a b left rule) (circlesIn n a b) r olds s
@@ -147,54 +87,34 @@ module _ (t owns : List ℕ) (n : ℕ) (a b left rule label members ends : List 
 
   module _ (still place : ℕ) (r : Record) (s out : List ℕ) (v : Turn still place r s out) where
     -- a line has no room
-    pub turn-full : place ≤ length out₀ → length out₀ - place < 19 → 0 < still
+    pub turn-full : length out₀ - place < 19 → 0 < still
         → Tells (record { mode = Working still; «record» = r; printed = place }) s out
-    turn-full fit less some = record {
+    turn-full less some = record {
       rounds = λ held heldOwns g o h.
           let c = v .come held heldOwns g o h in
           record {
             text = c .text;
-            rest = stepsTold still t r (lent held heldOwns s olds);
-            free = length out₀ - place;
-            whole = c .whole;
             shown = c .shown;
             place = c .behind;
-            room = omega arith;
             exactly = c .within ∙ within-full still (length out₀ - place) t r (lent held heldOwns s olds) (c .text) some less;
-            rests = full-rests still some (c .going) less;
           };
     }
 
     -- the turns are used up
-    pub turn-over : place ≤ length out₀ → still ≤ 0
-        → Tells (record { mode = Command; «record» = r; printed = place }) s out
-    turn-over fit none = record {
+    pub turn-over : still ≤ 0 → Tells (record { mode = Command; «record» = r; printed = place }) s out
+    turn-over none = record {
       rounds = λ held heldOwns g o h.
           let c = v .come held heldOwns g o h in
           record {
             text = c .text;
-            rest = stepsTold still t r (lent held heldOwns s olds);
-            free = length out₀ - place;
-            whole = c .whole;
             shown = c .shown;
             place = c .behind;
-            room = omega arith;
             exactly = c .within ∙ within-over still (length out₀ - place) t r (lent held heldOwns s olds) (c .text) none;
-            rests = none-rests still none (c .going);
           };
     }
 
-    module _ (some : 0 < still) (d : Record) (s′ : List ℕ) (w : WithinLimits d) (long : length s′ ≡ length s) (place′ : ℕ) (out′ : List ℕ) where
+    module _ (some : 0 < still) (d : Record) (s′ : List ℕ) (place′ : ℕ) (out′ : List ℕ) where
       -- one step more, in front of the rest
-      on-whole : (held heldOwns : List ℕ) (c : Come held heldOwns still place r s out) → owns ≡ take (r₀ .nodes) heldOwns
-          → Holds t (take (r₀ .nodes) held) owns n a b left rule label members ends count → (answer : Answer) → StepSays (madeFrom r s) answer d s′
-          → stepsTold turns t r₀ (lent held heldOwns s₀ olds) ≡ before (c .text) (stepThen (answerSays answer) d (lent held heldOwns s′ olds) (stepsTold (still - 1) t))
-      on-whole held heldOwns c o h answer u =
-          let q : still ≡ suc (still - 1) = omega arith in
-          c .whole
-          ∙ ap (λ (k : ℕ). before (c .text) (stepsTold k t r (lent held heldOwns s olds))) q
-          ∙ ap (before (c .text)) (steps-next (still - 1) t r (lent held heldOwns s olds) answer d (lent held heldOwns s′ olds) (carried held heldOwns r s (c .going) (c .nodes) o h answer d s′ u))
-
       on-within : (held heldOwns : List ℕ) (c : Come held heldOwns still place r s out) → owns ≡ take (r₀ .nodes) heldOwns
           → Holds t (take (r₀ .nodes) held) owns n a b left rule label members ends count → place + 19 ≤ length out₀ → place′ ≡ place + 19 → (answer : Answer) → StepSays (madeFrom r s) answer d s′
           → stepsWithin turns (length out₀ - printed) t r₀ (lent held heldOwns s₀ olds) ≡ behindText (c .text) (stepWithin (answerSays answer) d (lent held heldOwns s′ olds) (stepsWithin (still - 1) (length out₀ - place′) t))
@@ -203,7 +123,7 @@ module _ (t owns : List ℕ) (n : ℕ) (a b left rule label members ends : List 
           let z : length out₀ - place - 19 ≡ length out₀ - place′ = omega arith in
           c .within
           ∙ ap (λ (k : ℕ). behindText (c .text) (stepsWithin k (length out₀ - place) t r (lent held heldOwns s olds))) q
-          ∙ ap (behindText (c .text)) (within-next (still - 1) (length out₀ - place) t r (lent held heldOwns s olds) answer d (lent held heldOwns s′ olds) (carried held heldOwns r s (c .going) (c .nodes) o h answer d s′ u) (omega arith))
+          ∙ ap (behindText (c .text)) (within-next (still - 1) (length out₀ - place) t r (lent held heldOwns s olds) (stepped answer d (lent held heldOwns s′ olds)) (sym (carried held heldOwns r s (c .going) (c .nodes) o h answer d s′ u)) (omega arith))
           ∙ ap (λ (k : ℕ). behindText (c .text) (stepWithin (answerSays answer) d (lent held heldOwns s′ olds) (stepsWithin (still - 1) k t))) z
 
       on-shown : (text line : List ℕ) → out ≡ sets out₀ printed text → place ≡ printed + length text → out′ ≡ sets out place line → out′ ≡ sets out₀ printed (text ++ line)
@@ -216,17 +136,14 @@ module _ (t owns : List ℕ) (n : ℕ) (a b left rule label members ends : List 
       turn-round x y z k fit u put = record {
         come = λ held heldOwns g o h.
             let c = v .come held heldOwns g o h in
-            let e : round x y z k ≡ madeFrom r s .outcome = cc (u .answer) in
-            let kept = step-keeps (wired n t owns a b left rule) (circlesIn n a b) r olds s in
-            let same = ap (λ (q : Record). q .nodes) (u .next) ∙ kept .nodes in
+            let e = carried held heldOwns r s (c .going) (c .nodes) o h (Round x y z k) d s′ u in
             record {
               text = c .text ++ outcomeText (round x y z k);
-              whole = on-whole held heldOwns c o h (Round x y z k) u ∙ before-before (c .text) (outcomeText (round x y z k)) (stepsTold (still - 1) t d (lent held heldOwns s′ olds));
               within = on-within held heldOwns c o h (omega (arith, put .place)) (put .place) (Round x y z k) u ∙ behind-behind (c .text) (outcomeText (round x y z k)) (stepsWithin (still - 1) (length out₀ - place′) t d (lent held heldOwns s′ olds));
               shown = on-shown (c .text) (outcomeText (round x y z k)) (c .shown) (c .behind) (put .shown);
               behind = on-place (c .text) (outcomeText (round x y z k)) (c .behind) (put .place) (put .long);
-              going = going-next t (lent held heldOwns s olds) r d s′ (c .going) w long same (ap (λ (q : Record). q .held) (u .next) ∙ kept .held) (ap (λ (q : Record). q .«open») (u .next) ∙ kept .busy (ap isDone (sym e)));
-              nodes = same ∙ c .nodes;
+              going = round-going t (lent held heldOwns s olds) r (c .going) (Round x y z k) d (lent held heldOwns s′ olds) e refl;
+              nodes = same-nodes t (lent held heldOwns s olds) r (c .going) (Round x y z k) d (lent held heldOwns s′ olds) e ∙ c .nodes;
             };
       }
 
@@ -242,17 +159,11 @@ module _ (t owns : List ℕ) (n : ℕ) (a b left rule label members ends : List 
       turn-last x y z fit u put = record {
         rounds = λ held heldOwns g o h.
             let c = v .come held heldOwns g o h in
-            let same = ap (λ (q : Record). q .nodes) (u .next) ∙ step-keeps (wired n t owns a b left rule) (circlesIn n a b) r olds s .nodes in
             record {
               text = c .text ++ outcomeText (done x y z);
-              rest = record { text = []; next = d; memory = lent held heldOwns s′ olds };
-              free = length out₀ - place′;
-              whole = on-whole held heldOwns c o h (Done x y z) u ∙ before-last (c .text) (outcomeText (done x y z)) d (lent held heldOwns s′ olds);
               shown = on-shown (c .text) (outcomeText (done x y z)) (c .shown) (c .behind) (put .shown);
               place = on-place (c .text) (outcomeText (done x y z)) (c .behind) (put .place) (put .long);
-              room = omega arith;
               exactly = on-within held heldOwns c o h (omega (arith, put .place)) (put .place) (Done x y z) u;
-              rests = ended refl (holding-next t (lent held heldOwns s olds) r d s′ (c .going) w long same);
             };
       }
 

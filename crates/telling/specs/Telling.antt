@@ -2,14 +2,14 @@
 use mathlib.Core.Path.{_≡_}
 use mathlib.Core.Bool.{cond}
 use mathlib.Core.List.{List, [], _++_}
-use Prim.Native.Nat.{ℕ, zero, suc, _+_, _-_, _<_, _^_}
+use Prim.Native.Nat.{ℕ, zero, suc, _+_, _-_, _≤_, _<_, _^_}
 use lib.Dec.{ltb}
 use lib.ListN.{length, take}
 use lib.Seq.{sets}
 use Rattle.update.specs.declared.Record.{Record}
 use Rattle.update.specs.Memories.{Memory}
 use Rattle.update.specs.Steps.{Outcome, round, done}
-use Rattle.update.specs.Calls.{Said, refused, said, stepCall}
+use Rattle.update.specs.Calls.{Said, refused, said, withSets, stepCall}
 use Rattle.judging.specs.Lent.{lent}
 use Rattle.judging.specs.Order.{Holding, Going}
 use Rattle.engine.specs.Prepared.{Holds}
@@ -70,18 +70,25 @@ pub data Rests (t : List ℕ) (m : Memory) (r : Record) (free : ℕ) : Mode → 
   ended : {rest : session.Told} → rest ≡ record { text = []; next = r; memory = m } → Holding t m r → Rests t m r free Command rest
   full : {rest : session.Told} (turns : ℕ) → rest ≡ stepsTold (suc turns) t r m → Going t m r → free < 19 → Rests t m r free (Working (suc turns)) rest
 
--- the steps of an update: their text stands in the buffer from `printed` on, and what is left of them follows from the mode, the record and the memory
+-- what was to be told of all the steps is what these print and what is left of them; no more is printed than there is room for, and of the memory only the sets are written
+pub record RoundsPaid (t : List ℕ) (m : Memory) (r : Record) (turns room : ℕ) (w : Worked) : Type 0 where
+  pub rest : session.Told
+  pub whole : stepsTold turns t r m ≡ before (w .text) rest
+  pub few : length (w .text) ≤ room
+  pub rests : Rests t (w .memory) (w .next) (room - length (w .text)) (w .mode) rest
+  pub kept : w .memory ≡ withSets m (w .memory .sets)
+  pub size : length (w .memory .sets) ≡ length (m .sets)
+
+-- from every update that is at work
+abbrev pub RoundsPay : Type 0
+RoundsPay = (t : List ℕ) (m : Memory) (r : Record) (turns room : ℕ) → Going t m r → RoundsPaid t m r turns room (stepsWithin turns room t r m)
+
+-- ---- what the code says of it: the text stands in the buffer from `printed` on; the mode, the record and the next place are told
 pub record RoundsTold (t : List ℕ) (m : Memory) (r : Record) (turns printed : ℕ) (out : List ℕ) (told : Told) (m′ : Memory) (out′ : List ℕ) : Type 0 where
   pub text : List ℕ
-  pub rest : session.Told
-  pub free : ℕ
-  pub whole : stepsTold turns t r m ≡ before text rest
+  pub exactly : stepsWithin turns (length out - printed) t r m ≡ record { text = text; mode = told .mode; next = told .«record»; memory = m′ }
   pub shown : out′ ≡ sets out printed text
   pub place : told .printed ≡ printed + length text
-  pub room : told .printed + free ≡ length out
-  -- and nothing of it is left open: so many rounds have room
-  pub exactly : stepsWithin turns (length out - printed) t r m ≡ record { text = text; mode = told .mode; next = told .«record»; memory = m′ }
-  pub rests : Rests t m′ (told .«record») free (told .mode) rest
 
 -- the same of the steps over the arrays, whatever memory they were made from: they hold the system of its tree
 pub record TurnsTold (t owns : List ℕ) (n : ℕ) (a b left rule label members ends : List ℕ) (count : ℕ) (olds sets : List ℕ) (r : Record) (turns printed : ℕ)

@@ -4,7 +4,9 @@ pub mod Writing
 pub mod Taking
 pub mod Sofar
 pub mod Readings
+pub mod Passing
 pub mod Unique
+pub mod Refusing
 pub mod Kept
 pub mod Tables
 pub mod Walked

@@ -55,23 +55,23 @@ module _ (s t : List ℕ) (x : Expected) (place line : ℕ) (on : isOn x ≡ tru
   unfolding readOn
   read-out = rw on
 
-  turn : (n : ℕ) → readOn (suc n) t x s place line
+  pub read-turn : (n : ℕ) → readOn (suc n) t x s place line
       ≡ after (takenAt t x (frameAt s place line .frame) line) (λ y. readOn n (wordsAfter t x (frameAt s place line .frame)) y s (frameAt s place line .place) (frameAt s place line .line))
   unfolding readOn
-  turn n = rw on
+  read-turn n = rw on
 
   module _ (left : ℕ) (some : 1 ≤ left) (r : Step) (found : r ≡ frameAt s place line) where
     pub read-goes : (y : Expected) → takenAt t x (r .frame) line ≡ Next y → readOn left t x s place line ≡ readOn (left - 1) (wordsAfter t x (r .frame)) y s (r .place) (r .line)
     read-goes y h =
         let n : left ≡ suc (left - 1) = omega arith in
         let g : takenAt t x (frameAt s place line .frame) line ≡ Next y = ap (λ (z : Step). takenAt t x (z .frame) line) (sym found) ∙ h in
-        ap (λ (m : ℕ). readOn m t x s place line) n ∙ turn (left - 1) ∙ rw g (ap (λ (z : Step). readOn (left - 1) (wordsAfter t x (z .frame)) y s (z .place) (z .line)) (sym found))
+        ap (λ (m : ℕ). readOn m t x s place line) n ∙ read-turn (left - 1) ∙ rw g (ap (λ (z : Step). readOn (left - 1) (wordsAfter t x (z .frame)) y s (z .place) (z .line)) (sym found))
 
     pub read-stops : (f : Refusal) (l : ℕ) → takenAt t x (r .frame) line ≡ Stopped f l → readOn left t x s place line ≡ stop f l
     read-stops f l h =
         let n : left ≡ suc (left - 1) = omega arith in
         let g : takenAt t x (frameAt s place line .frame) line ≡ Stopped f l = ap (λ (z : Step). takenAt t x (z .frame) line) (sym found) ∙ h in
-        ap (λ (m : ℕ). readOn m t x s place line) n ∙ turn (left - 1) ∙ rw g
+        ap (λ (m : ℕ). readOn m t x s place line) n ∙ read-turn (left - 1) ∙ rw g
 
 pub read-ends : (n : ℕ) (s t : List ℕ) (x : Expected) (place line : ℕ) → isOn x ≡ false → readOn n t x s place line ≡ done t place line
 unfolding readOn

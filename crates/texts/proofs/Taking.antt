@@ -108,7 +108,7 @@ judged-by : (n : ℕ) (next : Expected) (line : ℕ) → 0 < n → Stopped (refu
 judged-by zero next line h = absurd (omega arith)
 judged-by (suc n) next line h = refl
 
-stopped-by : (r : Refusal) (next : Expected) (line : ℕ) → Stopped r line ≡ judgedAt (numberOf r) next line
+pub stopped-by : (r : Refusal) (next : Expected) (line : ℕ) → Stopped r line ≡ judgedAt (numberOf r) next line
 stopped-by r next line = ap (λ (q : Refusal). Stopped q line) (sym (by-number r)) ∙ judged-by (numberOf r) next line (number-low r)
 
 -- what is answered

@@ -10,7 +10,8 @@ ghost use mathlib.Core.Path.{_≡_};
 ghost use Prim.Native.Nat.{_≤_};
 ghost use lib.ListN.{length, replicate};
 ghost use lib.Seq.{paste};
-ghost use Rattle.texts.specs.Reading.{readingAt, tableAnswer, memoryAfter, Ends};
+ghost use Rattle.texts.specs.Reading.{readingAt, Ends};
+ghost use Rattle.texts.specs.Calls.{ReadTableSays};
 
 // Reads a table's frames into words of its own, each judged as it comes.
 fn read_words(text: &[u8], place: usize, line: u32, words: &mut [u64; 2657]) -> ReadTable
@@ -62,7 +63,7 @@ fn copy_words(words: &[u64; 2657], table: &mut [u64])
 
 // Reads a table at a place of a text into lent memory: 13, 14 and 1 to 5 frame by frame, then 15; where it is refused nothing is written.
 pub fn read_table(text: &[u8], place: usize, line: u32, table: &mut [u64]) -> ReadTable
-    ensures { λ r. ⌜ (r ≡ tableAnswer (readingAt (now (text .entry)) place line) (length (now (table .entry))) line) × (now (table .exit) ≡ memoryAfter (readingAt (now (text .entry)) place line) (now (table .entry))) ⌝ }
+    ensures { λ r. ⌜ ReadTableSays (now (text .entry)) place line (now (table .entry)) r (now (table .exit)) ⌝ }
 {
     let mut words = [0u64; 2657];
     let end = read_words(text, place, line, &mut words);

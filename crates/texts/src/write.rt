@@ -9,7 +9,6 @@ use table::child_count;
 use table::constant_at;
 use table::head_at;
 ghost use mathlib.Core.Path.{_≡_};
-ghost use mathlib.Core.Bool.{_&&_};
 ghost use Prim.Native.Nat.{_+_, _*_, _<_, _≤_};
 ghost use lib.Dec.{leb};
 ghost use lib.ListN.{length};
@@ -21,8 +20,8 @@ ghost use Rattle.frames.specs.Text.{textOf};
 ghost use Rattle.texts.specs.Text.{shown, tableText};
 ghost use Rattle.frames.specs.Walk.{Ready, isOn};
 ghost use Rattle.texts.specs.Putting.{Shows, textAt};
-ghost use Rattle.planting.specs.Written.{writtenOf, bufferAfter};
 ghost use Rattle.texts.specs.Putting.{reachedOf, equationText};
+ghost use Rattle.texts.specs.Calls.{WriteTableSays};
 
 // A production's word without the bytes of children that it has not.
 fn reached(word: u64, count: usize) -> u64
@@ -143,7 +142,7 @@ fn put_table(table: &[u64; 2657], buffer: &mut [u8]) -> usize
 
 // Writes a table: 1 to 5, then 15, and nothing where it is refused.
 pub fn write_table(table: &[u64; 2657], buffer: &mut [u8]) -> Written
-    ensures { λ r. ⌜ (r ≡ writtenOf (judgeTable (now (table .entry))) (length (now (buffer .entry))) (tableText (now (table .entry)))) × (now (buffer .exit) ≡ bufferAfter (judgeTable (now (table .entry))) (now (buffer .entry)) (tableText (now (table .entry)))) ⌝ }
+    ensures { λ r. ⌜ WriteTableSays (now (table .entry)) (now (buffer .entry)) r (now (buffer .exit)) ⌝ }
 {
     match judge_table(table) {
         Verdict::Sound => {

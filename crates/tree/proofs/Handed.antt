@@ -9,7 +9,7 @@ use Rattle.table.specs.Judge.{judgeTable}
 use Rattle.tree.specs.Tree.{judgeNodes, judgeTree}
 use Rattle.tree.specs.Refusals.{treeRefusal}
 
-or-zero : (n : ℕ) → orElse n 0 ≡ n
+pub or-zero : (n : ℕ) → orElse n 0 ≡ n
 or-zero zero = refl
 or-zero (suc n) = refl
 

@@ -4,6 +4,7 @@ pub mod Handed
 pub mod Size
 pub mod Exchange
 pub mod Exactly
+pub mod Refused
 pub mod Symbols
 pub mod Owner
 pub mod Parents

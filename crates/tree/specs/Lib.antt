@@ -5,6 +5,7 @@ pub mod Refusals
 pub mod Says
 pub mod Spans
 pub mod Judged
+pub mod Refused
 pub mod Parents
 pub mod Moved
 pub mod Replacement

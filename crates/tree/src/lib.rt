@@ -14,7 +14,7 @@ ghost use Rattle.refusal.specs.Numbers.{verdictOf};
 ghost use Rattle.table.specs.Words.{productionCount, childCount, childrenFrom};
 ghost use Rattle.table.specs.Limits.{Limits};
 ghost use Rattle.tree.specs.Tree.{judgeNodes, spanEnd};
-ghost use Rattle.tree.specs.Refusals.{treeRefusal};
+ghost use Rattle.tree.specs.Refusals.{JudgeTreeSays};
 ghost use Rattle.tree.specs.Says.{Says};
 ghost use Rattle.tree.specs.Spans.{Numbers, Ended, Spans};
 
@@ -98,7 +98,7 @@ pub fn judge_held(table: &[u64; 2657], held: &[u8], n: usize, symbol: usize) -> 
 
 // Judges a table and a tree that is handed in, whose root is to be of symbol 0.
 pub fn judge_tree(table: &[u64; 2657], productions: &[u8], owns: &[u64]) -> Verdict
-    ensures { λ r. ⌜ verdictOf r ≡ treeRefusal (now (table .entry)) (now (productions .entry)) (now (owns .entry)) ⌝ }
+    ensures { λ r. ⌜ JudgeTreeSays (now (table .entry)) (now (productions .entry)) (now (owns .entry)) r ⌝ }
 {
     match judge_table(table) {
         Verdict::Sound => {

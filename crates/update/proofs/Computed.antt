@@ -1,6 +1,5 @@
 -- The table of cases holds, by computation on the definitions. Assumes nothing.
-use mathlib.Core.Path.{_≡_, refl}
-use lib.ListN.{replicate}
+use mathlib.Core.Path.{refl}
 use lib.Count.{ones}
 use Rattle.sets.specs.Operations.{valueOf}
 use Rattle.sets.specs.Arguments.{argumentsOf}

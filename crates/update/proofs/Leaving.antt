@@ -18,7 +18,7 @@ use Rattle.update.specs.declared.Open.the-variants.{Load, Replacement}
 use Rattle.update.specs.Records.{beyond}
 use Rattle.update.specs.Memories.{Memory, nodesOf}
 use Rattle.update.specs.Refusals.{loadRefusal, replaceRefusal}
-use Rattle.update.specs.Steps.{roundNumber, fromOf, toOf, closedOf, roundRecord, Outcome, round, done, roundMade, doneMade, dueFrom, stepOf, onward, Ran, runOf}
+use Rattle.update.specs.Steps.{roundNumber, fromOf, toOf, closedOf, roundRecord, Outcome, round, done, roundMade, doneMade, dueFrom, stepOf, continued, Ran, runOf}
 use Rattle.update.specs.Calls.{loadCall, replaceCall}
 use Rattle.update.specs.Within.{WithinLimits, StepWithin, RunWithin, AllOpenWithin}
 use Rattle.update.proofs.Within.{beyond-means, all-open, all-shut}
@@ -72,9 +72,9 @@ step-within S R before r s l h = ⊎-elim
     closed = closedOf S (circleAt R (dueFrom S R r before s)) (fromOf S (circleAt R (dueFrom S R r before s)) (roundNumber r (dueFrom S R r before s)) s)
         (toOf S (circleAt R (dueFrom S R r before s)) (fromOf S (circleAt R (dueFrom S R r before s)) (roundNumber r (dueFrom S R r before s)) s))
 
-onward-within : (o : Outcome) (r : Record) (s : List ℕ) (go : Record → List ℕ → Ran) → beyond r ≡ false → beyond (go r s .next) ≡ false → beyond (onward o r s go .next) ≡ false
-onward-within (round a k c d) r s go h g = g
-onward-within (done a c d) r s go h g = h
+continued-within : (o : Outcome) (r : Record) (s : List ℕ) (go : Record → List ℕ → Ran) → beyond r ≡ false → beyond (go r s .next) ≡ false → beyond (continued o r s go .next) ≡ false
+continued-within (round a k c d) r s go h g = g
+continued-within (done a c d) r s go h g = h
 
 pub run-within : RunWithin
 unfolding runOf
@@ -82,7 +82,7 @@ run-within S R before zero r s l h = h
 run-within S R before (suc n) r s l h =
     let m = stepOf S R r before s in
     let w = step-within S R before r s l h in
-    onward-within (m .outcome) (m .next) (m .sets) (runOf S R before n) w (run-within S R before n (m .next) (m .sets) l w)
+    continued-within (m .outcome) (m .next) (m .sets) (runOf S R before n) w (run-within S R before n (m .next) (m .sets) l w)
 
 -- ---- opened records
 

@@ -9,8 +9,4 @@ pub mod Scheduling
 pub mod Running
 pub mod Filled
 pub mod Ready
-pub mod Rows
 pub mod Openings
-pub mod Histories
-pub mod Updating
-pub mod Promises

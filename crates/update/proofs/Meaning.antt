@@ -2,100 +2,45 @@
 use mathlib.Core.Path.{_≡_, refl, sym, ap}
 use mathlib.Core.Bool.{Bool, true, false, not, _&&_, _||_, true≢false, or-true}
 use mathlib.Core.Logic.{_⊎_, inl, inr, ⊎-elim}
-use mathlib.Core.List.{List, [], _∷_, map, List·Memᴰ·head, List·Memᴰ·tail}
+use mathlib.Core.List.{List, [], _∷_, map}
 use Prim.Native.Nat.{ℕ, zero, suc, _+_, _≤_}
 use native.Mathlib.Omega.{arith}
 use lib.Dec.{eqb, ltb, leb}
 use lib.ListN.{length, getD}
 use borrow.Author.Tests.{eqb-true, eqb-false, eq-eqb, ne-eqb, ltb-true, lt-ltb, leb-true, le-leb, not-true}
-use Rattle.circles.specs.Graph.{Graph, _∈_}
-use Rattle.circles.specs.Ranked.{member, anyOf, keep, upFrom, circleOf, ranking, labelsOf, rankedBy, ranked}
-use Rattle.climb.specs.System.{Assignment, System}
-use Rattle.climb.specs.Circuit.{circleAt, dueOf}
+use Rattle.circles.specs.Graph.{Graph}
+use Rattle.circles.specs.Ranked.{member, keep, upFrom, circleOf, ranking, labelsOf, rankedBy, ranked}
+use Rattle.circles.proofs.Lists.{or-parts, bool-same, keep-same}
+use Rattle.climb.specs.System.{System}
+use Rattle.climb.specs.Circuit.{circleAt}
 use Rattle.climb.specs.Memory.{at}
-use Rattle.climb.proofs.Lists.{either, and-is, member-in, member-of}
+use Rattle.climb.proofs.Lists.{either, and-is}
 use Rattle.wire.specs.Instances.{nodeOf, indexOf}
 use Rattle.update.specs.declared.Record.{Record}
 use Rattle.update.specs.Records.{isLoad}
 use Rattle.update.specs.Memories.{belowPoint}
 use Rattle.update.specs.Steps.{sownOf, survives, changedOf, runOf}
-use Rattle.update.specs.Meaning.{Sown, loads, synthesized, below, SownExactly, Due, by-sown, by-argument, DueExactly, Changed, ChangedExactly, LoadChanges, FirstIsLeast, NoBudget}
-
-or-is : (a b : Bool) → (a || b) ≡ true → (a ≡ true) ⊎ (b ≡ true)
-or-is true b h = inl refl
-or-is false b h = inr h
+use Rattle.update.specs.Meaning.{Sown, in-load, at-point, below, SownExactly, Changed, ChangedExactly, LoadChanges, FirstIsLeast, NoBudget}
 
 -- ---- sown
 
 sown-to : (r : Record) (x : ℕ) → sownOf r x ≡ true → Sown r x
 unfolding sownOf belowPoint
 sown-to r x h = ⊎-elim
-    (λ a. ⊎-elim loads (λ p. let q = and-is p in synthesized (eqb-true (nodeOf x) (r .point) (q .0)) (ltb-true (indexOf x) 4 (q .1))) (or-is (isLoad (r .«open»)) _ a))
-    (λ p. let q = and-is p in below (ltb-true (r .point) (nodeOf x) (q .0)) (ltb-true (nodeOf x) (r .point + r .part) (q .1))) (or-is _ _ h)
+    (λ a. ⊎-elim in-load (λ p. let q = and-is p in at-point (eqb-true (nodeOf x) (r .point) (q .0)) (ltb-true (indexOf x) 4 (q .1))) (or-parts (isLoad (r .«open»)) _ a))
+    (λ p. let q = and-is p in below (ltb-true (r .point) (nodeOf x) (q .0)) (ltb-true (nodeOf x) (r .point + r .part) (q .1))) (or-parts _ _ h)
 
 sown-from : (r : Record) (x : ℕ) → Sown r x → sownOf r x ≡ true
 unfolding sownOf belowPoint
-sown-from r x (loads h) = rw h
-sown-from r x (synthesized e l) = rw (eq-eqb (nodeOf x) (r .point) e, lt-ltb (indexOf x) 4 l, or-true (isLoad (r .«open»)))
+sown-from r x (in-load h) = rw h
+sown-from r x (at-point e l) = rw (eq-eqb (nodeOf x) (r .point) e, lt-ltb (indexOf x) 4 l, or-true (isLoad (r .«open»)))
 sown-from r x (below l m) = rw (lt-ltb (r .point) (nodeOf x) l, lt-ltb (nodeOf x) (r .point + r .part) m)
     (or-true (isLoad (r .«open») || (eqb (nodeOf x) (r .point) && ltb (indexOf x) 4)))
 
 pub sown-exactly : SownExactly
 sown-exactly r x = (sown-to r x, sown-from r x)
 
--- ---- due
-
--- a member of the list for which the test holds
-record Some (f : ℕ → Bool) (l : List ℕ) : Type 0 where
-  x : ℕ
-  member : x ∈ l
-  holds : f x ≡ true
-
-any-some : (f : ℕ → Bool) (l : List ℕ) → anyOf f l ≡ true → Some f l
-any-some f [] h = absurd (true≢false (sym h))
-any-some f (y ∷ l) h = ⊎-elim (λ p. record { x = y; member = List·Memᴰ·head refl; holds = p })
-    (λ p. let s = any-some f l p in record { x = s .x; member = List·Memᴰ·tail (s .member); holds = s .holds }) (or-is (f y) (anyOf f l) h)
-
-some-any : (f : ℕ → Bool) (l : List ℕ) (x : ℕ) → x ∈ l → f x ≡ true → anyOf f l ≡ true
-some-any f (y ∷ l) x (List·Memᴰ·head p) h = let q : f y ≡ true = rw p at h in rw q
-some-any f (y ∷ l) x (List·Memᴰ·tail m) h = rw (some-any f l x m h) (or-true (f y))
-
-module _ (S : System) (sown : ℕ → Bool) (b v : Assignment) (C : List ℕ) where
-  abbrev differs : ℕ → Bool
-  differs y = not (member C y) && not (eqb (v y) (b y))
-
-  due-to : dueOf S sown b v C ≡ true → Due S sown b v C
-  unfolding dueOf
-  due-to h =
-      let s = any-some (λ x. sown x || anyOf differs (S .args x)) C h in
-      ⊎-elim (by-sown (s .x) (member-of C (s .x) (s .member)))
-      (λ p. let a = any-some differs (S .args (s .x)) p in
-      let q = and-is (a .holds) in
-      by-argument (s .x) (a .x) (member-of C (s .x) (s .member)) (a .member) (not-true (member C (a .x)) (q .0))
-      (eqb-false (v (a .x)) (b (a .x)) (not-true (eqb (v (a .x)) (b (a .x))) (q .1))))
-      (or-is (sown (s .x)) (anyOf differs (S .args (s .x))) (s .holds))
-
-  due-from : Due S sown b v C → dueOf S sown b v C ≡ true
-  unfolding dueOf
-  due-from (by-sown x m h) = some-any (λ x. sown x || anyOf differs (S .args x)) C x (member-in C x m) (rw h)
-  due-from (by-argument x y m a o d) =
-      some-any (λ x. sown x || anyOf differs (S .args x)) C x (member-in C x m)
-      (rw (some-any differs (S .args x) y a (rw (o, ne-eqb (v y) (b y) d))) (or-true (sown x)))
-
-pub due-exactly : DueExactly
-due-exactly S sown b v C = (due-to S sown b v C, due-from S sown b v C)
-
 -- ---- changed
-
-keep-cong : (p q : ℕ → Bool) (l : List ℕ) → ((x : ℕ) → p x ≡ q x) → keep p l ≡ keep q l
-unfolding keep
-keep-cong p q [] h = refl
-keep-cong p q (x ∷ l) h = rw (h x, keep-cong p q l h)
-
-same-test : (a c : Bool) → (a ≡ true → c ≡ true) → (c ≡ true → a ≡ true) → a ≡ c
-same-test true c f g = sym (f refl)
-same-test false true f g = g refl
-same-test false false f g = refl
 
 module _ (S : System) (r : Record) (before sets : List ℕ) (x : ℕ) where
   abbrev counted : Bool
@@ -108,7 +53,7 @@ module _ (S : System) (r : Record) (before sets : List ℕ) (x : ℕ) where
       let q = and-is (p .0) in
       record {
         declared = q .0;
-        survives = ⊎-elim (λ a. inl (leb-true (nodeOf x) (r .point) a)) (λ a. inr (leb-true (r .point + r .part) (nodeOf x) a)) (or-is _ _ (q .1));
+        survives = ⊎-elim (λ a. inl (leb-true (nodeOf x) (r .point) a)) (λ a. inr (leb-true (r .point + r .part) (nodeOf x) a)) (or-parts _ _ (q .1));
         differs = eqb-false (at sets x) (at before x) (not-true (eqb (at sets x) (at before x)) (p .1));
       }
 
@@ -122,8 +67,8 @@ module _ (S : System) (r : Record) (before sets : List ℕ) (x : ℕ) where
 
 pub changed-exactly : ChangedExactly
 unfolding changedOf
-changed-exactly S r before sets test o h = rw o (ap length (keep-cong (counted S r before sets) test (upFrom 0 (S .size))
-    (λ x. same-test (counted S r before sets x) (test x) (λ c. h x .1 (counted-to S r before sets x c)) (λ c. counted-from S r before sets x (h x .0 c)))))
+changed-exactly S r before sets test o h = rw o (ap length (keep-same (counted S r before sets) test (upFrom 0 (S .size))
+    (λ x k. bool-same (counted S r before sets x) (test x) (λ c. h x .1 (counted-to S r before sets x c)) (λ c. counted-from S r before sets x (h x .0 c)))))
 
 pub load-changes : LoadChanges
 unfolding changedOf
@@ -137,7 +82,7 @@ module _ (p : ℕ → Bool) where
   from-start zero k x h = absurd (true≢false (sym h))
   from-start (suc n) k x h = ⊎-elim
       (λ (t : p k ≡ true). ⊎-elim (λ e. let q : x ≡ k = eqb-true x k e in omega arith) (λ m. omega (arith, from-start n (suc k) x m))
-      (or-is (eqb x k) (member (keep p (upFrom (suc k) n)) x) (rw t at h)))
+      (or-parts (eqb x k) (member (keep p (upFrom (suc k) n)) x) (rw t at h)))
       (λ (t : p k ≡ false). omega (arith, from-start n (suc k) x (rw t at h))) (either (p k))
 
   first-least : (n k x : ℕ) → member (keep p (upFrom k n)) x ≡ true

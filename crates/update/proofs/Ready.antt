@@ -28,7 +28,7 @@ use Rattle.update.specs.Records.{isOpen, beyond, shut}
 use Rattle.update.specs.Memories.{Memory}
 use Rattle.update.specs.Within.{Roomy, Fresh}
 use Rattle.update.specs.Steps.{sownOf}
-use Rattle.update.specs.Demands.{Begins}
+use Rattle.update.specs.Course.{Begins}
 
 -- ---- a tree that passes
 

@@ -14,7 +14,7 @@ use Rattle.update.specs.declared.Record.{Record}
 use Rattle.update.specs.Records.{isOpen, beyond}
 use Rattle.update.specs.Memories.{Memory, nodesOf, ownsOf}
 use Rattle.update.specs.Refusals.{firstRefusal, short, loadRefusal, passes, replaceRefusal, stepRefusal, readRefusal, dumpRefusal}
-use Rattle.update.specs.Refused.{LoadGives, ReplaceGives, StepGives, ReadGives, DumpGives, AllGivenExactly, Refuses, RefusesExactly, OneRefusal, NoneRefuses, Leaves, Reads, AllLeave, replacedNodes}
+use Rattle.update.specs.Refused.{LoadGives, ReplaceGives, StepGives, ReadGives, DumpGives, AllGivenExactly, Refuses, RefusesExactly, OneRefusal, NoneRefuses, Leaves, ReadLeaves, AllLeave, replacedNodes}
 use Rattle.update.specs.Calls.{refused, said, unless as unless′, is-open, loadCall, replaceCall, stepCall, runCall, unlessRead, readCall}
 use Rattle.update.proofs.Checks.{Check, if, unless, above, outside, table, tree, number, table-number, tree-number, nothing, among}
 
@@ -154,6 +154,6 @@ all-leave t m r = record {
   read = λ x. reads (readRefusal t m r x) (at (m .sets) x);
 }
   where
-    reads : (n v : ℕ) → Reads n (unlessRead n v)
+    reads : (n v : ℕ) → ReadLeaves n (unlessRead n v)
     reads zero v = record { refused = λ l. absurd (omega arith); carried = λ e. (v, refl) }
     reads (suc n) v = record { refused = λ l. refl; carried = λ e. absurd (omega arith) }

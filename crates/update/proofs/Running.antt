@@ -17,13 +17,13 @@ use Rattle.climb.proofs.Finishing.{final-least, all-final, load-most, load-kept
 use Rattle.update.specs.declared.Record.{Record}
 use Rattle.update.specs.Records.{isLoad, shut, working}
 use Rattle.update.specs.Within.{WithinLimits}
-use Rattle.update.specs.Steps.{sownOf, changedOf, Outcome, round, done, onward, Made, stepOf, paused, finished, Ran, runOf}
-use Rattle.update.specs.Demands.{Begins, ranOf, wholeOf, Phase, between, climbing, Stands, NextRound, NthRound, EachRound, Pauses, AllPause, AllFinish, RunsOn, LeastAtDone, LoadIsKept, LoadEvaluates, Below, NeverAtLimits, NeverBeyond, recordAt}
+use Rattle.update.specs.Steps.{sownOf, changedOf, Outcome, round, done, continued, Made, stepOf, paused, finished, Ran, runOf}
+use Rattle.update.specs.Course.{Begins, ranOf, wholeOf, Phase, between, climbing, StandsAfter, NextRound, NthRound, EachRound, Pauses, AllPause, AllFinish, RunsOn, LeastAtDone, LoadIsKept, LoadEvaluates, NeverBeyond, recordAt}
 use Rattle.update.proofs.Within.{beyond-means}
 use Rattle.update.proofs.Stepping.{Ended, step-law}
 use Rattle.update.proofs.Scheduling.{rounds-mono, rounds-behind, one-schedule}
 
-same-record : (r : Record) (i k c e : ℕ) → r .rank ≡ i → r .round ≡ k → r .circles ≡ c → r .evaluations ≡ e → r ≡ working r i k c e
+pub same-record : (r : Record) (i k c e : ℕ) → r .rank ≡ i → r .round ≡ k → r .circles ≡ c → r .evaluations ≡ e → r ≡ working r i k c e
 same-record r i k c e hi hk hc he = rw (← hi, ← hk, ← hc, ← he)
 
 -- after t rounds, with a budget of n
@@ -38,7 +38,7 @@ record DoneAt (S : System) (R : List (List ℕ)) (r : Record) (before : List ℕ
 record PausedAt (S : System) (R : List (List ℕ)) (r : Record) (before : List ℕ) (t n : ℕ) (a : Ran) : Type 0 where
   rounds : a .rounds ≡ n
   ending : a .ending ≡ paused
-  stands : Stands S R r before (t + n) (a .next) (a .sets)
+  stands : StandsAfter S R r before (t + n) (a .next) (a .sets)
 
 module _ (S : System) (R : List (List ℕ)) (r : Record) (before : List ℕ) (B : Begins S R r before) where
   abbrev sown : ℕ → Bool
@@ -60,7 +60,7 @@ module _ (S : System) (R : List (List ℕ)) (r : Record) (before : List ℕ) (B 
   law-more t n a (inr d) =
       inr (record { enough = omega (arith, d .enough); rounds = omega (arith, d .rounds); ending = d .ending; next = d .next; value = d .value; places = d .places })
 
-  run-law : (n t : ℕ) (now : Record) (s : List ℕ) → Stands S R r before t now s → Law t n (runOf S R before n now s)
+  run-law : (n t : ℕ) (now : Record) (s : List ℕ) → StandsAfter S R r before t now s → Law t n (runOf S R before n now s)
   unfolding runOf
   run-law zero t now s g = inl (record { rounds = refl; ending = refl; stands = rw (add-zero t) g })
   run-law (suc n) t now s g = ⊎-elim (λ h. on h (run-law n (suc t) (m .next) (m .sets) (h .stands))) off (step-law S R r before B t now s g)
@@ -82,14 +82,14 @@ module _ (S : System) (R : List (List ℕ)) (r : Record) (before : List ℕ) (B 
       }))
 
   -- t rounds are not more than all
-  stands-time : (t : ℕ) (now : Record) (s : List ℕ) → Stands S R r before t now s → t ≤ wholeOf S R r before
+  stands-time : (t : ℕ) (now : Record) (s : List ℕ) → StandsAfter S R r before t now s → t ≤ wholeOf S R r before
   stands-time t now s g = by-phase (g .i) (g .k) (at s) (g .rank) (g .phase) (g .time)
     where
       by-phase : (i k : ℕ) (v : Assignment) → i ≤ length R → Phase S R sown b i k v → t ≡ roundsTo S R sown b i + k → t ≤ wholeOf S R r before
       by-phase i zero v n (between e) h = omega (arith, rounds-mono S R sown b i (length R) n)
       by-phase i (suc k) v n (climbing l w o f e) h = omega (arith, rounds-behind S R sown b i (length R) w l)
 
-  begins : Stands S R r before 0 r before
+  begins : StandsAfter S R r before 0 r before
   unfolding sumTo afterOf
   begins = record { i = 0; k = 0; rank = zero-le; numbers = same-record r 0 0 0 _ (B .fresh .rank) (B .fresh .round) (B .fresh .circles) (B .fresh .evaluations ∙ omega arith); phase = between refl; time = omega arith; places = refl }
 
@@ -139,7 +139,7 @@ joined a b = record { rounds = a .rounds + b .rounds; ending = b .ending; next =
 -- behind one step
 step-on : (o : Outcome) (r : Record) (s : List ℕ) (first all rest : Record → List ℕ → Ran)
     → (first r s .ending ≡ paused → all r s ≡ joined (first r s) (rest (first r s .next) (first r s .sets)))
-    → onward o r s first .ending ≡ paused → onward o r s all ≡ joined (onward o r s first) (rest (onward o r s first .next) (onward o r s first .sets))
+    → continued o r s first .ending ≡ paused → continued o r s all ≡ joined (continued o r s first) (rest (continued o r s first .next) (continued o r s first .sets))
 step-on (round a k c d) r s first all rest f h =
     let b = rest (first r s .next) (first r s .sets) in
     let q : suc (first r s .rounds + b .rounds) ≡ suc (first r s .rounds) + b .rounds = omega arith in
@@ -177,8 +177,17 @@ module _ (S : System) (R : List (List ℕ)) (r : Record) (before : List ℕ) (B 
   limits : Limits S R (sownOf r) (at before)
   limits = all-limits S R (lawful-circles S (B .lawful) R) (B .ranked) (sownOf r) (at before) (B .small)
 
-  below-at : (i k : ℕ) (v : Assignment) → i ≤ length R → Phase S R (sownOf r) (at before) i k v → Below (recordAt S R r before i k)
-  below-at i k v n g = record { rank = omega (arith, B .ranked .count); round = few k g; circles = le-trans c (limits .circles); evaluations = evals k g }
+  within-at : (i k : ℕ) (v : Assignment) → i ≤ length R → Phase S R (sownOf r) (at before) i k v → WithinLimits r → WithinLimits (recordAt S R r before i k)
+  within-at i k v n g w = record {
+    nodes = w .nodes;
+    point = w .point;
+    part = w .part;
+    rank = omega (arith, B .ranked .count);
+    round = few k g;
+    circles = le-trans c (limits .circles);
+    evaluations = evals k g;
+    inside = w .inside;
+  }
     where
       q : i + (length R - i) ≡ length R
       q = omega arith
@@ -189,7 +198,7 @@ module _ (S : System) (R : List (List ℕ)) (r : Record) (before : List ℕ) (B 
       e : evaluationsTo S R (sownOf r) (at before) i ≤ evaluationsTo S R (sownOf r) (at before) (length R)
       e = rw q at (sum-mono (λ j. cond (workedOf S R (sownOf r) (at before) j) (length (circleAt R j) * roundsAt S R (sownOf r) (at before) j) 0) i (length R - i))
 
-      few : (k : ℕ) → Phase S R (sownOf r) (at before) i k v → k < 262145
+      few : (k : ℕ) → Phase S R (sownOf r) (at before) i k v → k ≤ 262145
       few zero (between p) = omega arith
       few (suc k) (climbing l w o f p) = omega (arith, limits .rounds i l)
 
@@ -197,23 +206,7 @@ module _ (S : System) (R : List (List ℕ)) (r : Record) (before : List ℕ) (B 
       evals zero (between p) = omega (arith, e, limits .evaluations)
       evals (suc k) (climbing l w o f p) = omega (arith, limits .midst i (suc k) l w f)
 
-pub never-at-limits : NeverAtLimits
-never-at-limits S R r before B n h =
-    let g = pauses S R r before B n h .stands in
-    rw (g .numbers) (below-at S R r before B (g .i) (g .k) _ (g .rank) (g .phase))
-
 pub never-beyond : NeverBeyond
 never-beyond S R r before B w n h =
     let g = pauses S R r before B n h .stands in
-    let l = below-at S R r before B (g .i) (g .k) _ (g .rank) (g .phase) in
-    let v : WithinLimits r = beyond-means r .0 w in
-    rw (g .numbers) (beyond-means (recordAt S R r before (g .i) (g .k)) .1 (record {
-      nodes = v .nodes;
-      point = v .point;
-      part = v .part;
-      rank = l .rank;
-      round = omega (arith, l .round);
-      circles = l .circles;
-      evaluations = l .evaluations;
-      inside = v .inside;
-    }))
+    rw (g .numbers) (beyond-means (recordAt S R r before (g .i) (g .k)) .1 (within-at S R r before B (g .i) (g .k) _ (g .rank) (g .phase) (beyond-means r .0 w)))

@@ -27,7 +27,7 @@ use Rattle.climb.proofs.Storing.{length-stores, in-memory}
 use Rattle.update.specs.declared.Record.{Record}
 use Rattle.update.specs.Records.{shut, working}
 use Rattle.update.specs.Steps.{sownOf, survives, changedOf, roundNumber, fromOf, toOf, closedOf, roundRecord, round, done, Made, roundMade, doneMade, dueFrom, stepOf}
-use Rattle.update.specs.Demands.{Begins, Phase, between, climbing, Stands, NextRound, recordAt}
+use Rattle.update.specs.Course.{Begins, Phase, between, climbing, StandsAfter, NextRound, recordAt}
 
 -- ---- the last round of a climb is the one that closes it
 
@@ -181,6 +181,8 @@ module _ (S : System) (R : List (List ℕ)) (r : Record) (before : List ℕ) (B 
       outcome = rw flag;
       value = d .value;
       elsewhere = λ x o. ap (λ (u : Assignment). u x) (d .value) ∙ stage-out S (member C) (after i) (suc j) x o ∙ sym (phase-outside i j (at s) g x o);
+      next = ⊎-elim (λ (h : eqb (suc j) (roundsAt S R sown b i) ≡ true). rw h (closed h .numbers)) (λ (h : eqb (suc j) (roundsAt S R sown b i) ≡ false). rw h (on h .numbers))
+          (either (eqb (suc j) (roundsAt S R sown b i)));
     };
     stands = ⊎-elim closed on (either (eqb (suc j) (roundsAt S R sown b i)));
   }
@@ -203,7 +205,7 @@ module _ (S : System) (R : List (List ℕ)) (r : Record) (before : List ℕ) (B 
       few : min (e + length C) 1073745920 ≡ e + length C
       few = min-eq-left (omega (arith, limits .midst i j l w f))
 
-      closed : eqb (suc j) (roundsAt S R sown b i) ≡ true → Stands S R r before (suc t) (m .next) (m .sets)
+      closed : eqb (suc j) (roundsAt S R sown b i) ≡ true → StandsAfter S R r before (suc t) (m .next) (m .sets)
       closed h =
           let q : suc j ≡ roundsAt S R sown b i = eqb-true (suc j) (roundsAt S R sown b i) h in
           let a = adds S R sown b i w in
@@ -221,7 +223,7 @@ module _ (S : System) (R : List (List ℕ)) (r : Record) (before : List ℕ) (B 
             places = d .places ∙ p;
           }
 
-      on : eqb (suc j) (roundsAt S R sown b i) ≡ false → Stands S R r before (suc t) (m .next) (m .sets)
+      on : eqb (suc j) (roundsAt S R sown b i) ≡ false → StandsAfter S R r before (suc t) (m .next) (m .sets)
       on h =
           let q : suc j < roundsAt S R sown b i = ⊎-elim (λ e. absurd (eqb-false (suc j) (roundsAt S R sown b i) h e)) (λ k. k) (eq-or-lt-of-le f) in
           let y : e + length C ≡ evaluationsTo S R sown b i + length C * suc j = omega arith in
@@ -318,5 +320,5 @@ module _ (S : System) (R : List (List ℕ)) (r : Record) (before : List ℕ) (B 
       (going t i (suc k) i (suc k) c e s l w f p (climbing l w o f v) ht refl refl))
 
   -- from where an update stands a step goes on, or ends it
-  pub step-law : (t : ℕ) (now : Record) (s : List ℕ) → Stands S R r before t now s → Law t s (stepOf S R now before s)
+  pub step-law : (t : ℕ) (now : Record) (s : List ℕ) → StandsAfter S R r before t now s → Law t s (stepOf S R now before s)
   step-law t now s g = rw (g .numbers) (phase-law t (g .i) (g .k) s (g .rank) (g .phase) (g .time) (g .places))

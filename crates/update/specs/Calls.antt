@@ -39,9 +39,12 @@ pub record Ranged : Type 0 where
   pub rounds : ℕ
   pub ending : Ending
 
+abbrev pub ranged : ℕ → Ending → Ranged
+ranged n e = record { rounds = n; ending = e }
+
 abbrev pub runSays : Run → Said Ranged
-runSays (Paused n) = said (record { rounds = n; ending = paused })
-runSays (Finished n circles evaluations changed) = said (record { rounds = n; ending = finished circles evaluations changed })
+runSays (Paused n) = said (ranged n paused)
+runSays (Finished n circles evaluations changed) = said (ranged n (finished circles evaluations changed))
 runSays (RunRefused r) = refused (numberOf r)
 
 abbrev pub readingSays : Reading → Said ℕ
@@ -55,6 +58,10 @@ pub record Left (A : Type 0) : Type 0 where
   pub next : Record
   pub memory : Memory
 
+-- a call that answers a, and leaves r in the record and m in the memory
+abbrev pub leaving : {A : Type 0} → A → Record → Memory → Left (Said A)
+leaving a r m = record { answer = said a; next = r; memory = m }
+
 -- a call whose refusal number is n: refused, with all as it was, or carried out
 abbrev pub unless : {A : Type 0} → ℕ → Record → Memory → Left (Said A) → Left (Said A)
 unless zero r m left = left
@@ -66,15 +73,13 @@ pub data Opened : Type 0 where
 
 unfoldable pub loadCall : List ℕ → Memory → Record → List ℕ → List ℕ → Left (Said Opened)
 loadCall t m r ns owns =
-    unless (loadRefusal t m r ns owns) r m (record { answer = said is-open; next = opened Load (length ns) 0 (length ns); memory = loaded m ns owns })
+    unless (loadRefusal t m r ns owns) r m (leaving is-open (opened Load (length ns) 0 (length ns)) (loaded m ns owns))
 
 unfoldable pub replaceCall : List ℕ → Memory → Record → ℕ → List ℕ → List ℕ → Left (Said Opened)
 replaceCall t m r point new newOwns =
-    unless (replaceRefusal t m r point new newOwns) r m (record {
-      answer = said is-open;
-      next = opened Replacement (r .nodes - part t (nodesOf m (r .nodes)) point + length new) point (length new);
-      memory = replaced t m (r .nodes) point new newOwns;
-    })
+    unless (replaceRefusal t m r point new newOwns) r m (leaving is-open
+    (opened Replacement (r .nodes - part t (nodesOf m (r .nodes)) point + length new) point (length new))
+    (replaced t m (r .nodes) point new newOwns))
 
 -- the system and the circles of the held tree
 abbrev pub systemOf : List ℕ → Memory → Record → System
@@ -88,13 +93,13 @@ abbrev pub withSets : Memory → List ℕ → Memory
 withSets m s = record { productions = m .productions; owns = m .owns; sets = s; before = m .before }
 
 abbrev pub stepLeft : Memory → Made → Left (Said Outcome)
-stepLeft m made = record { answer = said (made .outcome); next = made .next; memory = withSets m (made .sets) }
+stepLeft m made = leaving (made .outcome) (made .next) (withSets m (made .sets))
 
 unfoldable pub stepCall : List ℕ → Memory → Record → Left (Said Outcome)
 stepCall t m r = unless (stepRefusal t m r) r m (stepLeft m (stepOf (systemOf t m r) (circlesOf t m r) r (m .before) (m .sets)))
 
 abbrev pub runLeft : Memory → Ran → Left (Said Ranged)
-runLeft m ran = record { answer = said (record { rounds = ran .rounds; ending = ran .ending }); next = ran .next; memory = withSets m (ran .sets) }
+runLeft m ran = leaving (ranged (ran .rounds) (ran .ending)) (ran .next) (withSets m (ran .sets))
 
 unfoldable pub runCall : List ℕ → Memory → Record → ℕ → Left (Said Ranged)
 runCall t m r budget = unless (stepRefusal t m r) r m (runLeft m (runOf (systemOf t m r) (circlesOf t m r) (m .before) budget r (m .sets)))

@@ -49,19 +49,19 @@ pub record Walk : Type 0 where
   pub next : Record
   pub memory : Memory
 
--- a step's answer before the steps behind it; done and a refusal end the walk
-abbrev pub before : List ℕ → Walk → Walk
-before l w = record { told = l ++ w .told; next = w .next; memory = w .memory }
+-- a step's answer before those of the steps behind it; done and a refusal end the walk
+abbrev pub toldFirst : List ℕ → Walk → Walk
+toldFirst l w = record { told = l ++ w .told; next = w .next; memory = w .memory }
 
-abbrev pub onward : Said Outcome → Record → Memory → (Record → Memory → Walk) → Walk
-onward (refused n) r m go = record { told = 31 ∷ n ∷ []; next = r; memory = m }
-onward (said (round least k size closed)) r m go = before (numbers (round least k size closed)) (go r m)
-onward (said (done circles evaluations changed)) r m go = record { told = numbers (done circles evaluations changed); next = r; memory = m }
+abbrev pub walkOn : Said Outcome → Record → Memory → (Record → Memory → Walk) → Walk
+walkOn (refused n) r m go = record { told = 31 ∷ n ∷ []; next = r; memory = m }
+walkOn (said (round least k size closed)) r m go = toldFirst (numbers (round least k size closed)) (go r m)
+walkOn (said (done circles evaluations changed)) r m go = record { told = numbers (done circles evaluations changed); next = r; memory = m }
 
 -- n steps at the most
 unfoldable pub walk : ℕ → Record → Memory → Walk
 walk zero r m = record { told = []; next = r; memory = m }
-walk (suc n) r m = let l = stepCall tableA m r in onward (l .answer) (l .next) (l .memory) (walk n)
+walk (suc n) r m = let l = stepCall tableA m r in walkOn (l .answer) (l .next) (l .memory) (walk n)
 
 -- buffers of the shortest length that is taken
 unfoldable pub blank : Memory

@@ -5,8 +5,6 @@ pub mod Steps
 pub mod Calls
 pub mod Refused
 pub mod Within
-pub mod Demands
+pub mod Course
 pub mod Meaning
 pub mod Cases
-pub mod History
-pub mod Promises

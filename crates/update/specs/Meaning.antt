@@ -1,14 +1,14 @@
--- What the tests of a step mean: sown, due, changed, the least instance of a circle, a budget of nothing. Assumes nothing.
+-- What the tests of a step mean: sown, changed, the least instance of a circle, a budget of nothing. Assumes nothing.
 use mathlib.Core.Path.{_≡_}
 use mathlib.Core.Bool.{Bool, true, false}
 use mathlib.Core.Logic.{_⊎_, _↔_, _≢_}
 use mathlib.Core.List.{List}
 use Prim.Native.Nat.{ℕ, _+_, _≤_, _<_}
 use lib.ListN.{length, getD}
-use Rattle.circles.specs.Graph.{Graph, _∈_}
+use Rattle.circles.specs.Graph.{Graph}
 use Rattle.circles.specs.Ranked.{member, keep, upFrom, ranked}
-use Rattle.climb.specs.System.{Assignment, System}
-use Rattle.climb.specs.Circuit.{circleAt, dueOf}
+use Rattle.climb.specs.System.{System}
+use Rattle.climb.specs.Circuit.{circleAt}
 use Rattle.climb.specs.Memory.{at}
 use Rattle.wire.specs.Instances.{nodeOf, indexOf}
 use Rattle.update.specs.declared.Record.{Record}
@@ -17,20 +17,12 @@ use Rattle.update.specs.Steps.{sownOf, changedOf, paused, runOf}
 
 -- "Sown instances: r's synthesized ones and all below r; in a load, all."
 pub data Sown (r : Record) (x : ℕ) : Type 0 where
-  loads : isLoad (r .«open») ≡ true → Sown r x
-  synthesized : nodeOf x ≡ r .point → indexOf x < 4 → Sown r x
+  in-load : isLoad (r .«open») ≡ true → Sown r x
+  at-point : nodeOf x ≡ r .point → indexOf x < 4 → Sown r x
   below : r .point < nodeOf x → nodeOf x < r .point + r .part → Sown r x
 
 abbrev pub SownExactly : Type 0
 SownExactly = (r : Record) (x : ℕ) → (sownOf r x ≡ true) ↔ Sown r x
-
--- "A circle is due if it has a sown instance, or an argument outside itself whose value differs from its before value."
-pub data Due (S : System) (sown : ℕ → Bool) (b v : Assignment) (C : List ℕ) : Type 0 where
-  by-sown : (x : ℕ) → member C x ≡ true → sown x ≡ true → Due S sown b v C
-  by-argument : (x y : ℕ) → member C x ≡ true → y ∈ S .args x → member C y ≡ false → v y ≢ b y → Due S sown b v C
-
-abbrev pub DueExactly : Type 0
-DueExactly = (S : System) (sown : ℕ → Bool) (b v : Assignment) (C : List ℕ) → (dueOf S sown b v C ≡ true) ↔ Due S sown b v C
 
 -- "changed: surviving instances, r's included, whose value differs from before": nodes up to r, and those behind the new part
 pub record Changed (S : System) (r : Record) (before sets : List ℕ) (x : ℕ) : Type 0 where

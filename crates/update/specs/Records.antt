@@ -1,5 +1,6 @@
 -- The update record and its limits. Assumes nothing.
-use mathlib.Core.Bool.{Bool, true, false, cond, _&&_, _||_}
+use mathlib.Core.Path.{_≡_}
+use mathlib.Core.Bool.{Bool, true, false, _&&_, _||_}
 use Prim.Native.Nat.{ℕ, _+_}
 use lib.Dec.{ltb, leb}
 use Rattle.update.specs.declared.Open.{Open}
@@ -66,3 +67,7 @@ working r rank round circles evaluations = record {
   circles = circles;
   evaluations = evaluations;
 }
+
+-- what `Record::empty` promises
+abbrev pub EmptySays : Record → Type 0
+EmptySays a = a ≡ emptyRecord

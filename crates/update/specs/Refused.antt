@@ -50,8 +50,8 @@ abbrev pub sound : List ℕ → Memory → Record → Type 0 → Type 0
 sound t m r Rest = short m ≡ false and judgeTable t ≡ 0 and beyond r ≡ false and Rest
 
 -- where besides no update is open, and a tree is held and passes
-abbrev pub finished : List ℕ → Memory → Record → Type 0 → Type 0
-finished t m r Rest = sound t m r (isOpen (r .«open») ≡ false and r .held ≡ true and heldRefusal t m r ≡ 0 and Rest)
+abbrev pub atRest : List ℕ → Memory → Record → Type 0 → Type 0
+atRest t m r Rest = sound t m r (isOpen (r .«open») ≡ false and r .held ≡ true and heldRefusal t m r ≡ 0 and Rest)
 
 -- the nodes that a replacement would leave
 abbrev pub replacedNodes : List ℕ → Memory → Record → ℕ → List ℕ → ℕ
@@ -84,9 +84,9 @@ pub record ReplaceGives (t : List ℕ) (m : Memory) (r : Record) (point : ℕ) (
   pub by16 : (given ≡ 16) ↔ sound t m r (isOpen (r .«open») ≡ false and r .held ≡ false)
   pub by6or7 : (n : ℕ) → 6 ≤ n → n ≤ 7 → (given ≡ n) ↔ sound t m r (isOpen (r .«open») ≡ false and r .held ≡ true and ((heldRefusal t m r ≡ n)
       ⊎ (heldRefusal t m r ≡ 0 and point < r .nodes and replacedNodes t m r point new ≤ 512 and newRefusal t m r point new newOwns ≡ n)))
-  pub by9 : (given ≡ 9) ↔ finished t m r (r .nodes ≤ point)
-  pub by8 : (given ≡ 8) ↔ finished t m r (point < r .nodes and 512 < replacedNodes t m r point new)
-  pub by0 : (given ≡ 0) ↔ finished t m r (point < r .nodes and replacedNodes t m r point new ≤ 512 and newRefusal t m r point new newOwns ≡ 0)
+  pub by9 : (given ≡ 9) ↔ atRest t m r (r .nodes ≤ point)
+  pub by8 : (given ≡ 8) ↔ atRest t m r (point < r .nodes and 512 < replacedNodes t m r point new)
+  pub by0 : (given ≡ 0) ↔ atRest t m r (point < r .nodes and replacedNodes t m r point new ≤ 512 and newRefusal t m r point new newOwns ≡ 0)
   pub among : member (0 ∷ 15 ∷ 1 ∷ 2 ∷ 3 ∷ 4 ∷ 5 ∷ 11 ∷ 10 ∷ 16 ∷ 6 ∷ 7 ∷ 9 ∷ 8 ∷ 6 ∷ 7 ∷ []) given ≡ true
 
 -- "Step and run 15, 1 to 5, 11, 16, 6/7, 17."
@@ -109,15 +109,15 @@ pub record LookGives (t : List ℕ) (m : Memory) (r : Record) (given : ℕ) : Ty
 pub record ReadGives (t : List ℕ) (m : Memory) (r : Record) (x given : ℕ) : Type 0 where
   pub by15 : (given ≡ 15) ↔ (short m ≡ true)
   pub look : LookGives t m r given
-  pub by12 : (given ≡ 12) ↔ finished t m r (declared t (nodesOf m (r .nodes)) x ≡ false)
-  pub by0 : (given ≡ 0) ↔ finished t m r (declared t (nodesOf m (r .nodes)) x ≡ true)
+  pub by12 : (given ≡ 12) ↔ atRest t m r (declared t (nodesOf m (r .nodes)) x ≡ false)
+  pub by0 : (given ≡ 0) ↔ atRest t m r (declared t (nodesOf m (r .nodes)) x ≡ true)
   pub among : member (0 ∷ 15 ∷ 1 ∷ 2 ∷ 3 ∷ 4 ∷ 5 ∷ 11 ∷ 10 ∷ 16 ∷ 6 ∷ 7 ∷ 12 ∷ []) given ≡ true
 
 -- "with 15 for its text last"
 pub record DumpGives (t : List ℕ) (m : Memory) (r : Record) (room wanted given : ℕ) : Type 0 where
-  pub by15 : (given ≡ 15) ↔ ((short m ≡ true) ⊎ finished t m r (room < wanted))
+  pub by15 : (given ≡ 15) ↔ ((short m ≡ true) ⊎ atRest t m r (room < wanted))
   pub look : LookGives t m r given
-  pub by0 : (given ≡ 0) ↔ finished t m r (wanted ≤ room)
+  pub by0 : (given ≡ 0) ↔ atRest t m r (wanted ≤ room)
   pub among : member (0 ∷ 15 ∷ 1 ∷ 2 ∷ 3 ∷ 4 ∷ 5 ∷ 11 ∷ 10 ∷ 16 ∷ 6 ∷ 7 ∷ 15 ∷ []) given ≡ true
 
 -- every call gives its numbers exactly so
@@ -139,7 +139,7 @@ pub record Leaves {A : Type 0} (n : ℕ) (r : Record) (m : Memory) (left : Left 
   pub carried : n ≡ 0 → (a : A) × (left .answer ≡ said a)
 
 -- a reading changes nothing in any case
-pub record Reads (n : ℕ) (answer : Said ℕ) : Type 0 where
+pub record ReadLeaves (n : ℕ) (answer : Said ℕ) : Type 0 where
   pub refused : 0 < n → answer ≡ refused n
   pub carried : n ≡ 0 → (v : ℕ) × (answer ≡ said v)
 
@@ -148,7 +148,7 @@ pub record CallsLeave (t : List ℕ) (m : Memory) (r : Record) : Type 0 where
   pub replace : (point : ℕ) (new newOwns : List ℕ) → Leaves (replaceRefusal t m r point new newOwns) r m (replaceCall t m r point new newOwns)
   pub step : Leaves (stepRefusal t m r) r m (stepCall t m r)
   pub run : (budget : ℕ) → Leaves (stepRefusal t m r) r m (runCall t m r budget)
-  pub read : (x : ℕ) → Reads (readRefusal t m r x) (readCall t m r x)
+  pub read : (x : ℕ) → ReadLeaves (readRefusal t m r x) (readCall t m r x)
 
 abbrev pub AllLeave : Type 0
 AllLeave = (t : List ℕ) (m : Memory) (r : Record) → CallsLeave t m r

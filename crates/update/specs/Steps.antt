@@ -96,12 +96,12 @@ pub record Ran : Type 0 where
   pub next : Record
   pub sets : List ℕ
 
-abbrev pub onward : Outcome → Record → List ℕ → (Record → List ℕ → Ran) → Ran
-onward (round a k n c) r s go = record { rounds = suc (go r s .rounds); ending = go r s .ending; next = go r s .next; sets = go r s .sets }
-onward (done a b c) r s go = record { rounds = 0; ending = finished a b c; next = r; sets = s }
+abbrev pub continued : Outcome → Record → List ℕ → (Record → List ℕ → Ran) → Ran
+continued (round a k n c) r s go = record { rounds = suc (go r s .rounds); ending = go r s .ending; next = go r s .next; sets = go r s .sets }
+continued (done a b c) r s go = record { rounds = 0; ending = finished a b c; next = r; sets = s }
 
 unfoldable pub runOf : System → List (List ℕ) → List ℕ → ℕ → Record → List ℕ → Ran
 runOf S R before zero r s = record { rounds = 0; ending = paused; next = r; sets = s }
 runOf S R before (suc n) r s =
     let m = stepOf S R r before s in
-    onward (m .outcome) (m .next) (m .sets) (runOf S R before n)
+    continued (m .outcome) (m .next) (m .sets) (runOf S R before n)

@@ -45,21 +45,21 @@ pub record Fresh (r : Record) : Type 0 where
   pub circles : r .circles ≡ 0
   pub evaluations : r .evaluations ≡ 0
 
-pub record Opens (o : Open) (nodes point part : ℕ) : Type 0 where
+pub record OpenedRecord (o : Open) (nodes point part : ℕ) : Type 0 where
   pub fresh : Fresh (opened o nodes point part)
   pub held : opened o nodes point part .held ≡ true
   pub within : nodes ≤ 512 → point < nodes → point + part ≤ nodes → beyond (opened o nodes point part) ≡ false
 
 abbrev pub AllOpen : Type 0
-AllOpen = (o : Open) (nodes point part : ℕ) → Opens o nodes point part
+AllOpen = (o : Open) (nodes point part : ℕ) → OpenedRecord o nodes point part
 
-pub record Shuts (held : Bool) (nodes : ℕ) : Type 0 where
+pub record ShutRecord (held : Bool) (nodes : ℕ) : Type 0 where
   pub fresh : Fresh (shut held nodes)
   pub closed : isOpen (shut held nodes .«open») ≡ false
   pub within : nodes ≤ 512 → beyond (shut held nodes) ≡ false
 
 abbrev pub AllShut : Type 0
-AllShut = (held : Bool) (nodes : ℕ) → Shuts held nodes
+AllShut = (held : Bool) (nodes : ℕ) → ShutRecord held nodes
 
 -- ---- no call leaves a record that the next one refuses by 11
 

@@ -1,7 +1,6 @@
 // The update record that the caller lends, and what the engine's calls answer.
 use refusal::Refusal;
-ghost use mathlib.Core.Path.{_≡_};
-ghost use Rattle.update.specs.Records.{emptyRecord};
+ghost use Rattle.update.specs.Records.{EmptySays};
 
 // No update, load or replacement open.
 pub enum Open {
@@ -38,7 +37,7 @@ impl Record {
 
     // A record with no tree and no update.
     pub fn empty() -> Self
-        ensures { λ r. ⌜ r ≡ emptyRecord ⌝ }
+        ensures { λ r. ⌜ EmptySays r ⌝ }
     {
         Record {
             held: false,

@@ -1,7 +1,6 @@
 -- `tell_steps`: what is left of the steps falls line by line. Assumes nothing.
 use mathlib.Core.Path.{_≡_, refl, sym, subst}
-use mathlib.Core.List.{List}
-use Prim.Native.Nat.{ℕ, _+_, _≤_, _<_}
+use Prim.Native.Nat.{_+_, _≤_, _<_}
 use native.Mathlib.Omega.{arith}
 use lib.ListN.{length}
 use Rattle.climb.specs.Wired.{wired}
@@ -39,12 +38,6 @@ stepping c = c .before .before .before .before .before .before .before .before .
 abbrev looped-test : (k : tie.After-step-in Inv-loop μ-loop) → 0 < looped k .loop .still
 looped-test k = k .before .before .before .before .loop-test .taken
 
-abbrev setsOf : tie.After-step-in Inv-loop μ-loop → List ℕ
-setsOf k = k .step-in .last .1 .1 .1 .1 .1 .1 .1 .1 .1 .1 .1 .1 .1 .0
-
-long : (c : tie.After-slice-known6 Inv-loop μ-loop) → length (setsOf (stepping c)) ≡ length (looped (stepping c) .loop .sets)
-long c = search needs
-
 -- ---- a turn
 
 loop-holds : tie.Need-loop-holds Inv-loop μ-loop
@@ -56,7 +49,7 @@ loop-holds c =
 returns : tie.Need-returns Inv-loop μ-loop
 returns c =
     let l = c .before .before .loop in
-    turn-full _ _ _ _ _ _ _ _ _ _ _ _ _ _ _ _ _ (l .still) (l .at) (l .work) (l .sets) (l .out) (l .inv .5) (l .inv .3) (omega (arith, c .if1 .taken, l .inv .4)) (c .before .loop-test .taken)
+    turn-full _ _ _ _ _ _ _ _ _ _ _ _ _ _ _ _ _ (l .still) (l .at) (l .work) (l .sets) (l .out) (l .inv .5) (omega (arith, c .if1 .taken, l .inv .4)) (c .before .loop-test .taken)
 
 step-in-requires : tie.Need-step-in-requires Inv-loop μ-loop
 step-in-requires c κs =
@@ -94,7 +87,7 @@ returns-2 c =
     let k = stepping z in
     let l = looped k .loop in
     let p = z .before .before .put-answer .ensures in
-    turn-done _ _ _ _ _ _ _ _ _ _ _ _ _ _ _ _ _ (l .still) (l .at) (l .work) (l .sets) (l .out) (l .inv .5) (looped-test k) _ _ (within k) (long z) _ _ _ _ _ _ (c .before .answer .given .1) (omega (arith, room k, p .place)) (k .step-in .ensures) p
+    turn-done _ _ _ _ _ _ _ _ _ _ _ _ _ _ _ _ _ (l .still) (l .at) (l .work) (l .sets) (l .out) (l .inv .5) (looped-test k) _ _ _ _ _ _ _ _ (c .before .answer .given .1) (omega (arith, room k, p .place)) (k .step-in .ensures) p
 
 loop-again : tie.Need-loop-again Inv-loop μ-loop
 loop-again c =
@@ -107,7 +100,7 @@ loop-again c =
       search needs,
       omega (arith, room k, p .place),
       search needs,
-      turn-on _ _ _ _ _ _ _ _ _ _ _ _ _ _ _ _ _ (l .still) (l .at) (l .work) (l .sets) (l .out) (l .inv .5) (looped-test k) _ _ (within k) (long z) _ _ _ (omega (arith, room k, p .place)) (k .step-in .ensures) p (c .match .keys2),
+      turn-on _ _ _ _ _ _ _ _ _ _ _ _ _ _ _ _ _ (l .still) (l .at) (l .work) (l .sets) (l .out) (l .inv .5) (looped-test k) _ _ _ _ _ (omega (arith, room k, p .place)) (k .step-in .ensures) p (c .match .keys2),
     )
 
 pub tell-steps-spec : {M : Type 1} → statement M
@@ -137,4 +130,4 @@ tell-steps-spec =
     (λ c. c .before .loop .inv .4)
     (λ c.
     let l = c .before .loop in
-    turn-over _ _ _ _ _ _ _ _ _ _ _ _ _ _ _ _ _ (l .still) (l .at) (l .work) (l .sets) (l .out) (l .inv .5) (l .inv .3) (c .loop-test .left)))
+    turn-over _ _ _ _ _ _ _ _ _ _ _ _ _ _ _ _ _ (l .still) (l .at) (l .work) (l .sets) (l .out) (l .inv .5) (c .loop-test .left)))

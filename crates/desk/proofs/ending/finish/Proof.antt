@@ -1,105 +1,64 @@
 -- By what is waited for and whether a line has begun. Assumes nothing.
-use mathlib.Core.Path.{_≡_, refl, ap, sym, _∙_}
-use mathlib.Core.Bool.{Bool, true, false}
-use mathlib.Core.List.{List, [], _∷_}
-use Prim.Native.Nat.{ℕ, _+_, _≤_, _<_}
+use mathlib.Core.Path.{_≡_, sym, _∙_}
+use mathlib.Core.Bool.{true, false, true≢false}
 use native.Mathlib.Omega.{arith}
 use borrow.Author.Needs.{needs}
-use borrow.Author.Tests.{lt-ltb, le-ltb, eq-eqb, ne-eqb}
+use borrow.Author.Tests.{eq-eqb, ne-eqb}
 use lib.Dec.{eqb}
-use lib.ListN.{length}
-use lib.Seq.{sets}
-use Rattle.refusal.specs.declared.Refusal.the-variants as why
-use Rattle.lines.specs.Text.{byte, four}
-use Rattle.lines.proofs.Fields.{line-length}
 use Rattle.frames.specs.Out.{refusalText}
-use Rattle.frames.specs.declared.Written.{Written}
-use Rattle.frames.specs.declared.Written.the-variants.{Length, Refused}
-use Rattle.owing.specs.Laws.{endText}
-use Rattle.owing.specs.declared.Mode.{Mode}
-use Rattle.owing.specs.declared.Mode.the-variants.{Table, Command, Nodes, Working, Stopped}
-use Rattle.desk.specs.Ending.{lastText, finished, finishedOut, inside, silent}
-use Rattle.desk.specs.declared.State.{State}
+use Rattle.desk.proofs.Finishing.{begun-text, inside-text, outside-text, stopped-text, busy, ends, ends-silent}
 use Rattle.desk.proofs.ending.finish.Statement.{statement}
 use Rattle.desk.proofs.ending.finish.Tie as tie
 
-silent-text : (mode : Mode) (begun line : ℕ) → silent mode ≡ true → endText mode begun line ≡ []
-unfolding endText
-silent-text (Table x) begun line e = absurd (let z : _≡_ {A = ℕ} 0 1 = cc in omega arith)
-silent-text Command begun line e = absurd (let z : _≡_ {A = ℕ} 0 1 = cc in omega arith)
-silent-text (Nodes order count taken command) begun line e = absurd (let z : _≡_ {A = ℕ} 0 1 = cc in omega arith)
-silent-text (Working turns) begun line e = refl
-silent-text Stopped begun line e = refl
+-- a line has begun
+in-line : tie.Need-returns-3
+in-line c =
+    let p = c .before .before .put-last in
+    let e = c .before .before .before .before .before .before in
+    let w = e .before .before in
+    let a = w .before .before .before .args in
+    let s = a .state in
+    let b : eqb (s .begun) 0 ≡ false = ne-eqb (s .begun) 0 (λ z. omega arith) in
+    let f = sym (w .before .is-working .ensures) ∙ w .if1 .left in
+    let t = begun-text (s .mode) (s .begun) (s .line) f (λ z. true≢false (sym (e .before .is-stopped .ensures .no z) ∙ e .if2 .left)) b in
+    ends s (a .out .now) f (refusalText 13 (s .line)) t (p .result) (p .last .0) (p .ensures .0) (p .ensures .1)
 
--- inside a line
-begun-text : (mode : Mode) (begun line : ℕ) → silent mode ≡ false → eqb begun 0 ≡ false → endText mode begun line ≡ refusalText 13 line
-unfolding endText
-begun-text (Table x) begun line e b = rw b
-begun-text Command begun line e b = rw b
-begun-text (Nodes order count taken command) begun line e b = rw b
-begun-text (Working turns) begun line e b = absurd (let z : _≡_ {A = ℕ} 0 1 = cc in omega arith)
-begun-text Stopped begun line e b = absurd (let z : _≡_ {A = ℕ} 0 1 = cc in omega arith)
+-- none has, inside the table or a command
+in-part : tie.Need-returns-4
+in-part c =
+    let p = c .before .before .put-last2 in
+    let i = c .before .before .before .before in
+    let e = i .before .before .before .before .before .before in
+    let a = e .before .before .before .args in
+    let s = a .state in
+    let b : eqb (s .begun) 0 ≡ true = eq-eqb (s .begun) 0 (omega arith) in
+    let f = sym (e .before .is-working .ensures) ∙ e .if1 .left in
+    let t = inside-text (s .mode) (s .begun) (s .line) (sym (i .before .is-inside .ensures) ∙ i .if4 .taken) b in
+    ends s (a .out .now) f (refusalText 14 (s .line)) t (p .result) (p .last .0) (p .ensures .0) (p .ensures .1)
 
--- between two lines
-inside-text : (mode : Mode) (begun line : ℕ) → inside mode ≡ true → eqb begun 0 ≡ true → endText mode begun line ≡ refusalText 14 line
-unfolding endText
-inside-text (Table x) begun line e b = rw b
-inside-text Command begun line e b = absurd (let z : _≡_ {A = ℕ} 0 1 = cc in omega arith)
-inside-text (Nodes order count taken command) begun line e b = rw b
-inside-text (Working turns) begun line e b = absurd (let z : _≡_ {A = ℕ} 0 1 = cc in omega arith)
-inside-text Stopped begun line e b = absurd (let z : _≡_ {A = ℕ} 0 1 = cc in omega arith)
-
-outside-text : (mode : Mode) (begun line : ℕ) → inside mode ≡ false → eqb begun 0 ≡ true → endText mode begun line ≡ []
-unfolding endText
-outside-text (Table x) begun line e b = absurd (let z : _≡_ {A = ℕ} 0 1 = cc in omega arith)
-outside-text Command begun line e b = rw b
-outside-text (Nodes order count taken command) begun line e b = absurd (let z : _≡_ {A = ℕ} 0 1 = cc in omega arith)
-outside-text (Working turns) begun line e b = refl
-outside-text Stopped begun line e b = refl
-
-refusal-length : (n line : ℕ) → length (refusalText n line) ≡ 13
-unfolding refusalText
-refusal-length n line = line-length (byte 0x1f ∷ byte n ∷ four line ∷ [])
-
-module _ (s : State) (out : List ℕ) where
-  abbrev Finishes : Written → List ℕ → Type 0
-  Finishes r out′ = (r ≡ finished s out) × (out′ ≡ finishedOut s out)
-
-  short : length out < 13 → Finishes (Refused why.Buffer) out
-  unfolding finished finishedOut
-  short h = (rw (lt-ltb (length out) 13 h), rw (lt-ltb (length out) 13 h))
-
-  prints : 13 ≤ length out → (text : List ℕ) → lastText s ≡ text → (n : ℕ) → n ≡ length text → (out′ : List ℕ) → out′ ≡ sets out 0 text → Finishes (Length n) out′
-  unfolding finished finishedOut
-  prints h text e n d out′ f = (rw (le-ltb (length out) 13 h, e) (ap Length d), rw (le-ltb (length out) 13 h, e) f)
-
-  prints-none : 13 ≤ length out → lastText s ≡ [] → Finishes (Length 0) out
-  prints-none h e = prints h [] e 0 refl out refl
+-- none has, and no more is waited for
+between : tie.Need-returns-5
+between c =
+    let e = c .before .before .before .before .before .before in
+    let a = e .before .before .before .args in
+    let s = a .state in
+    let b : eqb (s .begun) 0 ≡ true = eq-eqb (s .begun) 0 (omega arith) in
+    ends-silent s (a .out .now) (sym (e .before .is-working .ensures) ∙ e .if1 .left) (outside-text (s .mode) (s .begun) (s .line) (sym (c .before .is-inside .ensures) ∙ c .if4 .left) b)
 
 pub finish-spec : {M : Type 1} → statement M
 finish-spec =
     tie.close
     (tie.spec
-    (λ c. let a = c .before .before .args in short (a .state) (a .out .now) (omega arith))
     (λ c κs. search needs)
-    (λ c. let a = c .before .before .before .before .args in let s = a .state in prints-none s (a .out .now) (omega arith) (silent-text (s .mode) (s .begun) (s .line) (sym (c .before .is-silent .ensures) ∙ c .if2 .taken)))
+    (λ c. let a = c .before .before .before .args in busy (a .state) (a .out .now) (sym (c .before .is-working .ensures) ∙ c .if1 .taken))
+    (λ c κs. search needs)
+    (λ c. let w = c .before .before .before in let a = w .before .before .args in let s = a .state in
+    ends-silent s (a .out .now) (sym (w .is-working .ensures) ∙ c .before .before .if1 .left) (stopped-text (s .mode) (s .begun) (s .line) (c .before .is-stopped .ensures .yes (c .if2 .taken))))
     (λ c κs. search needs)
     (λ c. search needs)
-    (λ c. let a = c .before .before .before .before .before .before .before .before .before .before .args in let s = a .state in
-    let e = c .before .before .put-refusal .ensures in
-    let b : eqb (s .begun) 0 ≡ false = ne-eqb (s .begun) 0 (λ z. omega arith) in
-    prints s (a .out .now) (omega arith) (refusalText 13 (s .line))
-    (begun-text (s .mode) (s .begun) (s .line) (sym (c .before .before .before .before .before .before .before .is-silent .ensures) ∙ c .before .before .before .before .before .before .if2 .left) b) (c .before .before .put-refusal .result)
-    (e .0 ∙ sym (refusal-length 13 (s .line))) (c .before .before .put-refusal .last .0) (e .1))
+    in-line
     (λ c κs. search needs)
     (λ c κs. search needs)
     (λ c. search needs)
-    (λ c. let a = c .before .before .before .before .before .before .before .before .before .before .before .before .args in let s = a .state in
-    let e = c .before .before .put-refusal2 .ensures in
-    let b : eqb (s .begun) 0 ≡ true = eq-eqb (s .begun) 0 (omega arith) in
-    prints s (a .out .now) (omega arith) (refusalText 14 (s .line))
-    (inside-text (s .mode) (s .begun) (s .line) (sym (c .before .before .before .before .before .is-inside .ensures) ∙ c .before .before .before .before .if4 .taken) b) (c .before .before .put-refusal2 .result)
-    (e .0 ∙ sym (refusal-length 14 (s .line))) (c .before .before .put-refusal2 .last .0) (e .1))
-    (λ c. let a = c .before .before .before .before .before .before .before .before .args in let s = a .state in
-    let b : eqb (s .begun) 0 ≡ true = eq-eqb (s .begun) 0 (omega arith) in
-    prints-none s (a .out .now) (omega arith) (outside-text (s .mode) (s .begun) (s .line) (sym (c .before .is-inside .ensures) ∙ c .if4 .left) b)))
+    in-part
+    between)

@@ -5,7 +5,6 @@ use Rattle.desk.proofs.Refusing.{given-short}
 use Rattle.desk.specs.Desk.{desk}
 use Rattle.refusal.proofs.Distinct.{sound-zero, refused-number}
 use Rattle.pieces.specs.Feeding.{takes, refuses}
-use Rattle.update.specs.Memories.{Memory}
 use Rattle.judging.specs.Lent.{lent}
 use lib.ListN.{length-replicate}
 use Prim.Native.Nat.{ℕ}

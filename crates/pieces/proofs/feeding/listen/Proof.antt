@@ -1,6 +1,5 @@
 -- The bytes that are gathered wait, or make a line that is heard. Assumes nothing.
 use Rattle.pieces.proofs.Faring.{sound-here, reaches, line-waits, line-heard}
-use Rattle.update.specs.Memories.{Memory}
 use Rattle.judging.specs.Lent.{lent}
 use borrow.Author.Tests.{not-true, not-false}
 use borrow.Author.Needs.{needs}
@@ -35,7 +34,6 @@ returns-2 c =
     let a = s .args in
     let m = lent (a .held .now) (a .held-owns .now) (a .sets .now) (a .before .now) in
     line-heard (a .table .now) (a .window .now) (a .parts .now) (a .part-owns .now) m (a .state) (a .piece .now) (a .from) (a .out .now) (a .printed) (s .pre .0) (s .pre .1) _ _ _ _ (c .before .before .before .before .before .before .before .before .before .before .before .before .before .before .before .before .before .before .before .before .before .before .before .before .before .before .before .before .before .before .gather .ensures) (c .before .before .before .before .before .before .before .before .before .before .before .before .before .before .before .before .before .before .before .before .before .before .before .before .before .before .before .before .before .window .given) _ _ _ _ _ _ (c .before .before .before .before .before .before .before .before .before .before .before .before .before .before .before .before .hear-line .ensures) _ (c .line-after .ensures)
-    (record { window = c .before .before .before .before .before .before .before .before .before .before .before .before .before .before .before .before .before .before .before .before .before .before .before .before .before .before .before .before .before .window .given; parts = c .before .before .before .before .before .before .before .before .before .before .before .before .before .before .before .parts .given; part-owns = c .before .before .before .before .before .before .before .before .before .before .before .before .before .part-owns .given; productions = c .before .before .before .before .before .before .before .before .before .before .before .held .given; owns = c .before .before .before .before .before .before .before .before .before .held-owns .given; sets-size = c .before .before .before .before .before .before .before .sets .given; before = c .before .before .before .before .before .before2 .given })
     (not-false (c .before .before .before .before .before .before .before .before .before .before .before .before .before .before .before .before .before .before .before .before .before .before .before .before .before .before .before .before .before .before .gather .result .whole) (c .before .before .before .before .before .before .before .before .before .before .before .before .before .before .before .before .before .before .before .before .before .before .before .before .before .before .if1 .left)) (s .pre .2)
 
 pub listen-spec : {M : Type 1} → statement M

@@ -3,7 +3,6 @@ use Rattle.pieces.proofs.Faring.{not-working, not-silent, sound-here, r
 use Rattle.desk.proofs.Deciding.{tested-not}
 use Rattle.judging.specs.Lent.{lent}
 use native.Mathlib.Omega.{arith}
-use mathlib.Core.Path.{refl}
 use borrow.Author.Needs.{needs}
 use Rattle.pieces.proofs.feeding.turn.Statement.{statement}
 use Rattle.pieces.proofs.feeding.turn.Tie as tie
@@ -21,7 +20,6 @@ returns c =
     let a = s .args in
     let m = lent (a .held .now) (a .held-owns .now) (a .sets .now) (a .before .now) in
     rounds-told (a .table .now) (a .window .now) (a .parts .now) (a .part-owns .now) m (a .state) (a .piece .now) (a .from) (a .out .now) (a .printed) (s .pre .0) (s .pre .1) (c .before .before .before .before .before .before .before .before .before .before .before .before .before .before .mode .given .0 .0) (c .before .before .before .before .before .before .before .before .before .before .before .before .before .before .mode .given .1) _ _ _ (c .before .before .before .before .before .work .ensures)
-    (record { window = refl; parts = refl; part-owns = refl; productions = refl; owns = refl; sets-size = c .before .before .before .before .sets .given; before = refl })
 
 returns-2 : tie.Need-returns-2
 returns-2 c =

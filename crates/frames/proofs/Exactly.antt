@@ -1,0 +1,189 @@
+-- A frame is found exactly where one stands. Assumes nothing.
+use mathlib.Core.Path.{_≡_, refl, ap, sym, _∙_}
+use mathlib.Core.Bool.{Bool, true, false, cond}
+use mathlib.Core.List.{List, [], _∷_}
+use Prim.Native.Nat.{ℕ, _+_, _*_}
+use native.Mathlib.Omega.{arith}
+use borrow.Author.Tests.{eqb-true, eqb-false, ltb-true}
+use lib.Dec.{eqb, ltb}
+use lib.ListN.{getD}
+use Rattle.refusal.specs.declared.Refusal.the-variants as why
+use Rattle.lines.specs.Hex.{numAt}
+use Rattle.lines.specs.Text.{lineAt}
+use Rattle.lines.specs.Exactly.{IsLine, NoLine}
+use Rattle.lines.specs.declared.Line.{Line}
+use Rattle.lines.specs.declared.Line.the-variants.{Digits, Bad, End}
+use Rattle.lines.proofs.Exactly.{line-one, all-lines-exactly}
+use Rattle.frames.specs.Frames.{wrongLength, sized, headerOf, symbolOf, productionOf, equationOf, nodeOf, loadOf, replaceOf, dumpOf, kindOf, frameOf, lineAfter, stepOf, frameAt}
+use Rattle.frames.specs.Exactly.{childrenAt, Fields, header, symbol, production, equation, node, load, replace, dump, IsFrame, Astray, ended as text-ended, other as another, Finds, over, by13, by14, frame, FrameExactly}
+use Rattle.frames.specs.declared.Step.{Step}
+use Rattle.frames.specs.declared.Frame.{Frame}
+use Rattle.frames.specs.declared.Frame.the-variants.{Header, Symbol, Production, Equation, Node, Load, Replace, Dump, Refused, Over}
+
+-- ---- what the table of frames says of each type
+
+-- the right length of a type; 0 where there is no such type
+abbrev rightLength : List ℕ → ℕ → ℕ → ℕ
+rightLength s place type = getD (0 ∷ 6 ∷ 6 ∷ (6 + 2 * numAt 2 s (place + 4)) ∷ 28 ∷ 20 ∷ 6 ∷ 10 ∷ 2 ∷ []) type 0
+
+-- and its frame
+abbrev frameBy : List ℕ → ℕ → ℕ → Frame
+frameBy s place type = getD
+    (Over ∷ Header (numAt 2 s (place + 2)) (numAt 2 s (place + 4)) ∷ Symbol (numAt 2 s (place + 2)) (numAt 2 s (place + 4))
+    ∷ Production (numAt 2 s (place + 2)) (numAt 2 s (place + 4)) (childrenAt s place (numAt 2 s (place + 4)))
+    ∷ Equation (numAt 2 s (place + 2)) (record { position = numAt 2 s (place + 4); index = numAt 2 s (place + 6) }) (record { position = numAt 2 s (place + 8); index = numAt 2 s (place + 10) }) (numAt 16 s (place + 12))
+    ∷ Node (numAt 2 s (place + 2)) (numAt 16 s (place + 4)) ∷ Load (numAt 4 s (place + 2)) ∷ Replace (numAt 4 s (place + 2)) (numAt 4 s (place + 6)) ∷ Dump ∷ []) type Over
+
+module _ {s : List ℕ} {place : ℕ} where
+  right-length : {f : Frame} {type n : ℕ} → Fields s place f type n → n ≡ rightLength s place type
+  right-length header = refl
+  right-length symbol = refl
+  right-length production = refl
+  right-length equation = refl
+  right-length node = refl
+  right-length load = refl
+  right-length replace = refl
+  right-length dump = refl
+
+  right-frame : {f : Frame} {type n : ℕ} → Fields s place f type n → f ≡ frameBy s place type
+  right-frame header = refl
+  right-frame symbol = refl
+  right-frame production = refl
+  right-frame equation = refl
+  right-frame node = refl
+  right-frame load = refl
+  right-frame replace = refl
+  right-frame dump = refl
+
+-- ---- the frame that a line's digits make is one of the table, or none of the table fits
+
+module _ (s : List ℕ) (place n line : ℕ) where
+  abbrev first : ℕ
+  first = numAt 2 s place
+
+  data Made (g : Frame) : Type 0 where
+    found : (f : Frame) (type : ℕ) → first ≡ type → Fields s place f type n → g ≡ f → Made g
+    wrong : ((f : Frame) (type : ℕ) → first ≡ type → Fields s place f type n → ⊥) → g ≡ wrongLength line → Made g
+
+  either : (b : Bool) (x y : Frame) → (b ≡ true → Made x) → (b ≡ false → Made y) → Made (cond b x y)
+  either true x y g h = g refl
+  either false x y g h = h refl
+
+  -- a line of a type with another length than the right one
+  misfit : (type : ℕ) → first ≡ type → (n ≡ rightLength s place type → ⊥) → Made (wrongLength line)
+  misfit type e h = wrong (λ f other d w. h (right-length w ∙ ap (rightLength s place) (sym d ∙ e))) refl
+
+  of-type : (type : ℕ) (f : Frame) → first ≡ type → (n ≡ rightLength s place type → Fields s place f type n) → Made (sized n (rightLength s place type) line f)
+  of-type type f e g =
+      either (eqb n (rightLength s place type)) f (wrongLength line) (λ h. found f type e (g (eqb-true n (rightLength s place type) h)) refl)
+      (λ h. misfit type e (eqb-false n (rightLength s place type) h))
+
+  made-production : first ≡ 3 → Made (productionOf s place n line)
+  unfolding productionOf
+  made-production e =
+      either (ltb n 6) _ _ (λ h. misfit 3 e (λ d. omega (arith, ltb-true n 6 h))) (λ h. of-type 3 _ e (λ d. rw d production))
+
+  -- a line of no type that there is
+  unlisted : {f : Frame} {type m : ℕ} → Fields s place f type m → first ≡ type → eqb first 1 ≡ false → eqb first 2 ≡ false → eqb first 3 ≡ false → eqb first 4 ≡ false → eqb first 5 ≡ false → eqb first 6 ≡ false → eqb first 7 ≡ false → eqb first 8 ≡ false → ⊥
+  unlisted header e n1 n2 n3 n4 n5 n6 n7 n8 = eqb-false first 1 n1 e
+  unlisted symbol e n1 n2 n3 n4 n5 n6 n7 n8 = eqb-false first 2 n2 e
+  unlisted production e n1 n2 n3 n4 n5 n6 n7 n8 = eqb-false first 3 n3 e
+  unlisted equation e n1 n2 n3 n4 n5 n6 n7 n8 = eqb-false first 4 n4 e
+  unlisted node e n1 n2 n3 n4 n5 n6 n7 n8 = eqb-false first 5 n5 e
+  unlisted load e n1 n2 n3 n4 n5 n6 n7 n8 = eqb-false first 6 n6 e
+  unlisted replace e n1 n2 n3 n4 n5 n6 n7 n8 = eqb-false first 7 n7 e
+  unlisted dump e n1 n2 n3 n4 n5 n6 n7 n8 = eqb-false first 8 n8 e
+
+  made : Made (frameOf s place n line)
+  unfolding frameOf kindOf headerOf symbolOf equationOf nodeOf loadOf replaceOf dumpOf
+  made =
+      either (eqb first 1) _ _ (λ e. of-type 1 _ (eqb-true first 1 e) (λ d. rw d header)) (λ n1. either (eqb first 2) _ _ (λ e. of-type 2 _ (eqb-true first 2 e) (λ d. rw d symbol)) (λ n2.
+      either (eqb first 3) _ _ (λ e. made-production (eqb-true first 3 e)) (λ n3. either (eqb first 4) _ _ (λ e. of-type 4 _ (eqb-true first 4 e) (λ d. rw d equation)) (λ n4.
+      either (eqb first 5) _ _ (λ e. of-type 5 _ (eqb-true first 5 e) (λ d. rw d node)) (λ n5. either (eqb first 6) _ _ (λ e. of-type 6 _ (eqb-true first 6 e) (λ d. rw d load)) (λ n6.
+      either (eqb first 7) _ _ (λ e. of-type 7 _ (eqb-true first 7 e) (λ d. rw d replace)) (λ n7. either (eqb first 8) _ _ (λ e. of-type 8 _ (eqb-true first 8 e) (λ d. rw d dump)) (λ n8. wrong (λ f type e w. unlisted w e n1 n2 n3 n4 n5 n6 n7 n8) refl))))))))
+
+-- ---- the frame at a place
+
+module _ (s : List ℕ) (place line : ℕ) where
+  finds-line : (n : ℕ) → IsLine s place n → (g : Frame) → Made s place n line g → Finds s place line (record { frame = g; place = place + (n + 1); line = lineAfter line })
+  finds-line n l g (found f type e w d) = rw d (frame (record { line = l; begins = e; fields = w }))
+  finds-line n l g (wrong h d) = rw d (by14 (record { line = l; none = λ f type w. h f type (w .begins) (w .fields) }))
+
+  by-line : (l : Line) → lineAt s place ≡ l → Finds s place line (stepOf s place line l)
+  by-line (Digits n) e = finds-line n (all-lines-exactly s place .line n .0 e) (frameOf s place n line) (made s place n line)
+  by-line Bad e = by13 (all-lines-exactly s place .bad .0 e)
+  by-line End e = over (all-lines-exactly s place .over .0 e)
+
+  finds : Finds s place line (frameAt s place line)
+  unfolding frameAt
+  finds = by-line (lineAt s place) refl
+
+  -- and back: what stands there leaves one answer
+  step-is : (l : Line) → lineAt s place ≡ l → frameAt s place line ≡ stepOf s place line l
+  unfolding frameAt
+  step-is l e = ap (stepOf s place line) e
+
+  abbrev behind : ℕ → Frame → Step
+  behind n f = record { frame = f; place = place + (n + 1); line = lineAfter line }
+
+  frame-made : (n : ℕ) (g : Frame) → Made s place n line g → {f : Frame} {type : ℕ} → IsFrame s place f type n → g ≡ f
+  frame-made n g (found h other e v d) w = d ∙ right-frame v ∙ ap (frameBy s place) (sym e ∙ w .begins) ∙ sym (right-frame (w .fields))
+  frame-made n g (wrong h d) {f} {type} w = absurd (h f type (w .begins) (w .fields))
+
+  finds-one : {a : Step} → Finds s place line a → a ≡ frameAt s place line
+  finds-one (over h) = sym (step-is End (all-lines-exactly s place .over .1 h))
+  finds-one (by13 w) = sym (step-is Bad (all-lines-exactly s place .bad .1 w))
+  finds-one (by14 {n} w) = ap (behind n) (sym (no-frame (frameOf s place n line) (made s place n line))) ∙ sym (step-is (Digits n) (all-lines-exactly s place .line n .1 (w .line)))
+    where
+      no-frame : (g : Frame) → Made s place n line g → g ≡ wrongLength line
+      no-frame g (found f type e v d) = absurd (w .none f type (record { line = w .line; begins = e; fields = v }))
+      no-frame g (wrong h d) = d
+  finds-one (frame {f} {type} {n} w) = ap (behind n) (sym (frame-made n (frameOf s place n line) (made s place n line) w)) ∙ sym (step-is (Digits n) (all-lines-exactly s place .line n .1 (w .line)))
+
+pub frame-exactly : FrameExactly
+frame-exactly s place line a = (λ e. rw e (finds s place line), finds-one s place line)
+
+-- ---- where a frame of one type is expected: no line, none of that type, or one
+
+pub data Expects (s : List ℕ) (place type : ℕ) : Type 0 where
+  bad : NoLine s place → Expects s place type
+  astray : Astray s place type → Expects s place type
+  there : (f : Frame) (n : ℕ) → IsFrame s place f type n → Expects s place type
+
+-- a frame that is none of the type: it is refused by 14 itself, the text is over, or it is one of another type
+pub data Stray (line expected : ℕ) : Frame → Type 0 where
+  refused : Stray line expected (Refused why.Frame line)
+  ended : Stray line expected Over
+  strange : {s : List ℕ} {place : ℕ} {f : Frame} {type n : ℕ} → Fields s place f type n → (type ≡ expected → ⊥) → Stray line expected f
+
+module _ (s : List ℕ) (place line : ℕ) where
+  by-type : {f : Frame} {type n : ℕ} (expected : ℕ) (b : Bool) → eqb type expected ≡ b → IsFrame s place f type n → Expects s place expected
+  by-type {f} {type} {n} expected true e w = there f n (rw (eqb-true type expected e) at w)
+  by-type {f} {type} {n} expected false e w = astray (another (w .line) (λ g m v. eqb-false type expected e (sym (w .begins) ∙ v .begins)))
+
+  expects-of : {a : Step} (expected : ℕ) → Finds s place line a → Expects s place expected
+  expects-of expected (over h) = astray (text-ended h)
+  expects-of expected (by13 w) = bad w
+  expects-of expected (by14 {n} w) = astray (another (w .line) (λ f m v. w .none f expected (rw (line-one (v .line) (w .line)) at v)))
+  expects-of expected (frame {f} {type} {n} w) = by-type expected (eqb type expected) refl w
+
+  pub expects : (expected : ℕ) → Expects s place expected
+  expects expected = expects-of expected (finds s place line)
+
+  -- what is found in each case
+  pub found-bad : NoLine s place → frameAt s place line ≡ record { frame = Refused why.Line line; place = place; line = line }
+  found-bad w = sym (finds-one s place line (by13 w))
+
+  pub found-there : {f : Frame} {type n : ℕ} → IsFrame s place f type n → frameAt s place line ≡ record { frame = f; place = place + (n + 1); line = lineAfter line }
+  found-there w = sym (finds-one s place line (frame w))
+
+  stray-of : {a : Step} (expected : ℕ) → Finds s place line a → Astray s place expected → Stray line expected (a .frame)
+  stray-of expected (over h) d = ended
+  stray-of expected (by13 w) (text-ended h) = absurd (omega (arith, w .some))
+  stray-of expected (by13 w) (another {n} l h) = absurd (w .none n l)
+  stray-of expected (by14 w) d = refused
+  stray-of expected (frame {f} {type} {n} w) (text-ended h) = absurd (omega (arith, w .line .inside))
+  stray-of expected (frame {f} {type} {n} w) (another l h) = strange (w .fields) (λ e. h f n (rw e at w))
+
+  pub found-stray : (expected : ℕ) → Astray s place expected → Stray line expected (frameAt s place line .frame)
+  found-stray expected d = stray-of expected (finds s place line) d

@@ -1,0 +1,16 @@
+-- Of all that a call on a text's frames could answer and leave, no two fit what it says. Assumes nothing.
+use mathlib.Core.List.{List}
+use Prim.Native.Nat.{ℕ}
+use denote.Ref.{RefT}
+use Rattle.refusal.specs.Only.{Only, After}
+use Rattle.frames.specs.Calls.{FrameAtSays, ReaderAtSays, NextSays, AdvanceSays}
+use Rattle.frames.specs.declared.Frame.{Frame}
+use Rattle.frames.specs.declared.Step.{Step}
+use Rattle.frames.specs.declared.Reader.{Reader}
+
+pub record FramesOne : Type 0 where
+  pub frame-at : (s : List ℕ) (place line : ℕ) → Only (λ (a : Step). FrameAtSays s place line a)
+  pub next-at : (s : List ℕ) (place line : ℕ) → Only (λ (a : Step). FrameAtSays s place line a)
+  pub reader-at : (text : RefT (List ℕ)) (place line : ℕ) → Only (λ (a : Reader). ReaderAtSays text place line a)
+  pub next : (r : Reader) → Only (λ (a : Step). NextSays r a)
+  pub advance : (r : Reader) → Only (λ (x : After Frame Reader). AdvanceSays r (x .answer) (x .found))

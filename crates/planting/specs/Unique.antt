@@ -1,0 +1,12 @@
+-- Of all that a call on a tree's text could answer and leave, no two fit what it says. Assumes nothing.
+use mathlib.Core.List.{List}
+use Prim.Native.Nat.{ℕ}
+use Rattle.refusal.specs.Only.{Only, After}
+use Rattle.frames.specs.declared.Written.{Written}
+use Rattle.planting.specs.Calls.{WriteTreeSays, ReadTreeSays}
+use Rattle.planting.specs.declared.ReadTree.{ReadTree}
+
+pub record TreesOne : Type 0 where
+  pub write-tree : (t ns owns buffer : List ℕ) → Only (λ (x : After Written (List ℕ)). WriteTreeSays t ns owns buffer (x .answer) (x .found))
+  pub read-tree : (t s : List ℕ) (place line : ℕ) (ns owns : List ℕ)
+      → Only (λ (x : After ReadTree (After (List ℕ) (List ℕ))). ReadTreeSays t s place line ns owns (x .answer) (x .found .answer) (x .found .found))

@@ -1,0 +1,211 @@
+-- No text but what the definition of a session computes is one. Assumes nothing.
+use mathlib.Core.Path.{_≡_, refl, sym, ap, _∙_, subst}
+use mathlib.Core.Bool.{true, false, true≢false}
+use mathlib.Core.List.{List, _++_}
+use Prim.Native.Nat.{ℕ, zero, suc, _+_, _≤_, _<_}
+use native.Mathlib.Omega.{arith}
+use lib.ListN.{length}
+use Rattle.climb.specs.System.{Assignment, graphOf}
+use Rattle.wire.specs.Instances.{system}
+use Rattle.wire.specs.Replaced.{nodesAfter, ownsAfter}
+use Rattle.update.specs.declared.Record.{Record}
+use Rattle.update.specs.Records.{emptyRecord}
+use Rattle.update.specs.Memories.{Memory}
+use Rattle.update.specs.Refused.{Leaves}
+use Rattle.update.specs.Calls.{Said, Left, leaving, Opened, is-open, loadCall, replaceCall}
+use Rattle.update.proofs.Refusing.{all-leave}
+use Rattle.demands.specs.Engine.{ours}
+use Rattle.demands.specs.History.{History}
+use Rattle.demands.specs.Asked.{ByRank, newRule, surviving, valueBefore}
+use Rattle.demands.proofs.Updating.{one-least}
+use Rattle.demands.proofs.Circles.{every-tree-by-rank}
+use Rattle.frames.specs.Frames.{frameAt}
+use Rattle.frames.specs.Out.{refusalText}
+use Rattle.frames.specs.declared.Frame.{Frame}
+use Rattle.frames.specs.declared.Frame.the-variants.{Header, Symbol, Production, Equation, Node, Load, Replace, Dump, Refused, Over}
+use Rattle.texts.specs.Reading as table
+use Rattle.texts.specs.Reading.{Reading, readingAt}
+use Rattle.texts.specs.Refused.{TableRead}
+use Rattle.texts.proofs.Refusing.{table-exactly}
+use Rattle.texts.proofs.Passing.{frame-on, none-left}
+use Rattle.planting.specs.Planting.{good}
+use Rattle.session.specs.Session.{Told, openedThen, toDone, dumpTold, andOn, command, commandsFrom, ownMemory, afterTable, session}
+use Rattle.session.specs.Lines.{LoadText, ReplacementText, UpdateText, SetsText}
+use Rattle.session.specs.Commands.{TreeHeld, no-tree, tree, Between, at-first, behind-history, LoadNumber, ReplaceNumber, too-many, judged, absent, outside, CommandAt, Command, load-refused, loads, replacement-refused, replaces, dump-refused, dumps, outOfPlace, Stops, over, bad-line, misplaced, bad-load, bad-replacement, Commands, stops, goes-on, no-table, runs, OnlySession}
+use Rattle.session.proofs.Reading.{TableKept, table-kept}
+use Rattle.session.proofs.Resting.{finished-state, rests, load-number, replace-number, dump-number}
+use Rattle.session.proofs.Updates.{load-carried, replacement-carried}
+use Rattle.session.proofs.Texts.{one-update, one-dump}
+use Rattle.session.proofs.Commands.{opens, nodes-behind, sets-text}
+
+-- ---- the numbers
+
+one-load : {t ns owns : List ℕ} {a b : ℕ} → LoadNumber t ns owns a → LoadNumber t ns owns b → a ≡ b
+one-load (too-many h) (too-many k) = refl
+one-load (too-many h) (judged k e) = absurd (omega arith)
+one-load (judged h e) (too-many k) = absurd (omega arith)
+one-load (judged h e) (judged k f) = sym e ∙ f
+
+one-replacement : {t new newOwns : List ℕ} {point a b : ℕ} {h : TreeHeld} → ReplaceNumber t point new newOwns h a → ReplaceNumber t point new newOwns h b → a ≡ b
+one-replacement absent absent = refl
+one-replacement (outside h) (outside k) = refl
+one-replacement (outside h) (too-many k l) = absurd (omega arith)
+one-replacement (outside h) (judged k l e) = absurd (omega arith)
+one-replacement (too-many h i) (outside k) = absurd (omega arith)
+one-replacement (too-many h i) (too-many k l) = refl
+one-replacement (too-many h i) (judged k l e) = absurd (omega arith)
+one-replacement (judged h i e) (outside k) = absurd (omega arith)
+one-replacement (judged h i e) (too-many k l) = absurd (omega arith)
+one-replacement (judged h i e) (judged k l f) = sym e ∙ f
+
+-- ---- a call by its number, as it is told
+
+told-refused : (t : List ℕ) (line : ℕ) {n k : ℕ} {r : Record} {m : Memory} {left : Left (Said Opened)} → Leaves k r m left → k ≡ n → 0 < n
+    → openedThen line t left ≡ record { text = refusalText n line; next = r; memory = m }
+told-refused t line {r = r} {m} {left} l e some = ap (openedThen line t) (subst (λ (k : ℕ). Leaves k r m left) e l .refused some)
+
+told-opened : (t : List ℕ) (line : ℕ) {k : ℕ} {r : Record} {m : Memory} {left : Left (Said Opened)} → Leaves k r m left → k ≡ 0
+    → (left ≡ leaving is-open (left .next) (left .memory)) × (openedThen line t left ≡ toDone t (left .next) (left .memory))
+told-opened t line {r = r} {m} {left} l e =
+    let o = opens (subst (λ (k : ℕ). Leaves k r m left) e l) in
+    (o, ap (openedThen line t) o)
+
+-- the circles by rank of a tree that a history ends with are determined
+one-rank : {t ns owns : List ℕ} {r : Record} {m : Memory} → History ours t ns owns r m
+    → (A B : List (List ℕ)) → ByRank (graphOf (system t ns owns)) A → ByRank (graphOf (system t ns owns)) B → A ≡ B
+one-rank {t} {ns} {owns} h A B a b =
+    let only = every-tree-by-rank t ns owns (finished-state h .sound) .1 in
+    only A a ∙ sym (only B b)
+
+-- ---- the commands
+
+misplaced-prints : (s t : List ℕ) (f : Frame) (line place next : ℕ) (r : Record) (m : Memory) (go : ℕ → ℕ → Record → Memory → List ℕ) → outOfPlace f ≡ true
+    → refusalText 14 line ≡ command s t f line place next r m go
+misplaced-prints s t (Header a b) line place next r m go e = refl
+misplaced-prints s t (Symbol a b) line place next r m go e = refl
+misplaced-prints s t (Production a b c) line place next r m go e = refl
+misplaced-prints s t (Equation a b c d) line place next r m go e = refl
+misplaced-prints s t (Node a b) line place next r m go e = refl
+misplaced-prints s t (Load a) line place next r m go e = absurd (true≢false (sym e))
+misplaced-prints s t (Replace a b) line place next r m go e = absurd (true≢false (sym e))
+misplaced-prints s t Dump line place next r m go e = absurd (true≢false (sym e))
+misplaced-prints s t (Refused a b) line place next r m go e = absurd (true≢false (sym e))
+misplaced-prints s t Over line place next r m go e = absurd (true≢false (sym e))
+
+module _ (s t : List ℕ) (q : TableKept t) where
+  -- the first of at most n commands, and k behind it
+  record Turned (n place line : ℕ) (r : Record) (m : Memory) : Type 0 where
+    k : ℕ
+    is : commandsFrom n s t place line r m ≡ command s t (frameAt s place line .frame) line (frameAt s place line .place) (frameAt s place line .line) r m (commandsFrom k s t)
+    left : (place′ : ℕ) → place < place′ → length s ≤ k + place′
+
+  turned : (n place line : ℕ) (r : Record) (m : Memory) → length s ≤ n + place → Turned n place line r m
+  unfolding commandsFrom
+  turned zero place line r m enough = record { k = 0; is = rw (none-left s place line (omega arith)); left = λ place′ l. omega arith }
+  turned (suc n) place line r m enough = record { k = n; is = refl; left = λ place′ l. omega arith }
+
+  module _ (place line : ℕ) (r : Record) (m : Memory) (go : ℕ → ℕ → Record → Memory → List ℕ) where
+    -- the command at the place, as the definition tells it
+    abbrev told-here : List ℕ
+    told-here = command s t (frameAt s place line .frame) line (frameAt s place line .place) (frameAt s place line .line) r m go
+
+    stop-only : {text : List ℕ} → Stops s place line text → text ≡ told-here
+    stop-only (over e) = rw e
+    stop-only (bad-line e) = rw e
+    stop-only (misplaced e) = misplaced-prints s t (frameAt s place line .frame) line (frameAt s place line .place) (frameAt s place line .line) r m go e
+    stop-only (bad-load c) = rw (c .frame, c .found)
+    stop-only (bad-replacement point c) = rw (c .frame, c .found)
+
+    load-here : {ns owns : List ℕ} {place′ line′ : ℕ} → CommandAt s place line Load (good ns owns place′ line′) → told-here ≡ andOn (openedThen line t (loadCall t m r ns owns)) place′ line′ go
+    load-here c = rw (c .frame, c .found)
+
+    replacement-here : {point : ℕ} {ns owns : List ℕ} {place′ line′ : ℕ} → CommandAt s place line (Replace point) (good ns owns place′ line′)
+        → told-here ≡ andOn (openedThen line t (replaceCall t m r point ns owns)) place′ line′ go
+    replacement-here c = rw (c .frame, c .found)
+
+    dump-here : frameAt s place line .frame ≡ Dump → told-here ≡ dumpTold line t r m .text ++ go (frameAt s place line .place) (frameAt s place line .line) r m
+    unfolding dumpTold
+    dump-here e = rw e
+
+    -- what is told, and then what goes on
+    told-on : {told then : Told} {text rest : List ℕ} (place′ line′ : ℕ) → told ≡ then → text ≡ then .text → rest ≡ go place′ line′ (then .next) (then .memory)
+        → text ++ rest ≡ andOn told place′ line′ go
+    told-on place′ line′ e f g = rw (e, f, g)
+
+  -- what goes on behind a command with the tree h
+  abbrev Rest : (ℕ → ℕ → Record → Memory → List ℕ) → List ℕ → ℕ → ℕ → ℕ → TreeHeld → Type 0
+  Rest go rest place place′ line′ h = (r : Record) (m : Memory) → Between t h r m → place < place′ → rest ≡ go place′ line′ r m
+
+  -- the text of an update is determined
+  load-only : {ns owns a b : List ℕ} {r : Record} {m : Memory} → History ours t ns owns r m → LoadText t ns owns a → LoadText t ns owns b → a ≡ b
+  load-only {ns} {owns} h p told = one-update (system t ns owns) (λ x. true) (λ x. false) (λ x. 0) (one-rank h) p told
+
+  replacement-only : {ns owns new newOwns a b : List ℕ} {point : ℕ} {r : Record} {m : Memory}
+      → History ours t (nodesAfter t ns new point) (ownsAfter t ns owns newOwns point) r m
+      → ReplacementText t ns owns point new newOwns a → ReplacementText t ns owns point new newOwns b → a ≡ b
+  replacement-only {ns} {owns} {new} {newOwns} {a} {b} {point} h p told =
+      let ns′ : List ℕ = nodesAfter t ns new point in
+      let S = system t ns′ (ownsAfter t ns owns newOwns point) in
+      let e : p .old ≡ told .old = one-least (system t ns owns) (p .old) (told .old) (p .least) (told .least) in
+      let u = subst (λ (v : Assignment). UpdateText S (newRule t ns′ point (length new)) (surviving point (length new)) (valueBefore t ns new point v) a) e (p .update) in
+      one-update S (newRule t ns′ point (length new)) (surviving point (length new)) (valueBefore t ns new point (told .old)) (one-rank h) u (told .update)
+
+  none-dumped : {r : Record} {m : Memory} (line : ℕ) → Between t no-tree r m → dumpTold line t r m .text ≡ refusalText 16 line
+  unfolding dumpTold
+  none-dumped line b = rw (dump-number b (q .sound))
+
+  sets-dumped : {ns owns : List ℕ} {r : Record} {m : Memory} (line : ℕ) → Between t (tree ns owns) r m → SetsText t ns owns (dumpTold line t r m .text)
+  unfolding dumpTold
+  sets-dumped line (behind-history a) = rw (dump-number (behind-history a) (q .sound)) (sets-text a)
+
+  command-only : {place line place′ line′ : ℕ} {h h′ : TreeHeld} {r r₀ r′ : Record} {m m₀ m′ : Memory} {text rest : List ℕ} (go : ℕ → ℕ → Record → Memory → List ℕ)
+      → Command s t place line h r₀ m₀ text place′ line′ h′ r′ m′ → Between t h r m → Rest go rest place place′ line′ h′ → text ++ rest ≡ told-here place line r m go
+  command-only {place} {line} {place′} {line′} {h} {r = r} {m = m} go (load-refused {ns = ns} {owns} c num some) b on =
+      let e = one-load (load-number t (rests b) (q .sound) ns owns) num in
+      let f = nodes-behind c (rw (c .frame) (omega arith)) in
+      told-on place line r m go place′ line′ (told-refused t line (all-leave t m r .load ns owns) e some) refl (on r m b (f .1)) ∙ sym (load-here place line r m go c)
+  command-only {place} {line} {place′} {line′} {r = r} {m = m} go (loads {ns = ns} {owns} c num done text) b on =
+      let e = one-load (load-number t (rests b) (q .sound) ns owns) num in
+      let f = nodes-behind c (rw (c .frame) (omega arith)) in
+      let o = told-opened t line (all-leave t m r .load ns owns) e in
+      let d = load-carried t ns owns r _ m _ (q .words) (f .0) (o .0) in
+      told-on place line r m go place′ line′ (o .1) (load-only (d .done .history) text (d .text)) (on _ _ (behind-history (d .done .history)) (f .1))
+      ∙ sym (load-here place line r m go c)
+  command-only {place} {line} {place′} {line′} {r = r} {m = m} go (replacement-refused {new = new} {newOwns} point c num some) b on =
+      let e = one-replacement (replace-number b (q .sound) point new newOwns) num in
+      let f = nodes-behind c (rw (c .frame) (omega arith)) in
+      told-on place line r m go place′ line′ (told-refused t line (all-leave t m r .replace point new newOwns) e some) refl (on r m b (f .1))
+      ∙ sym (replacement-here place line r m go c)
+  command-only {place} {line} {place′} {line′} {r = r} {m = m} go (replaces {ns = ns} {owns} {new} {newOwns} point c num done text) (behind-history a) on =
+      let e = one-replacement (replace-number (behind-history a) (q .sound) point new newOwns) num in
+      let f = nodes-behind c (rw (c .frame) (omega arith)) in
+      let o = told-opened t line (all-leave t m r .replace point new newOwns) e in
+      let d = replacement-carried t ns owns r _ m _ a point new newOwns (f .0) (o .0) in
+      told-on place line r m go place′ line′ (o .1) (replacement-only (d .done .history) text (d .text)) (on _ _ (behind-history (d .done .history)) (f .1))
+      ∙ sym (replacement-here place line r m go c)
+  command-only {place} {line} {r = r} {m = m} go (dump-refused e) b on =
+      let g = on r m b (frame-on s place line (rw e (omega arith))) in
+      rw (dump-here place line r m go e, none-dumped line b, g)
+  command-only {place} {line} {r = r} {m = m} go (dumps e text) b on =
+      let g = on r m b (frame-on s place line (rw e (omega arith))) in
+      rw (dump-here place line r m go e, one-dump text (sets-dumped line b), g)
+
+  commands-only : {place line : ℕ} {h : TreeHeld} {r₀ : Record} {m₀ : Memory} {text : List ℕ} → Commands s t place line h r₀ m₀ text
+      → (n : ℕ) (r : Record) (m : Memory) → Between t h r m → length s ≤ n + place → text ≡ commandsFrom n s t place line r m
+  commands-only {place} {line} (stops x) n r m b enough =
+      let w = turned n place line r m enough in
+      stop-only place line r m (commandsFrom (w .k) s t) x ∙ sym (w .is)
+  commands-only {place} {line} (goes-on {place′ = place′} {line′} c b′ rest) n r m b enough =
+      let w = turned n place line r m enough in
+      command-only (commandsFrom (w .k) s t) c b (λ r₁ m₁ b₁ further. commands-only rest (w .k) r₁ m₁ b₁ (w .left place′ further)) ∙ sym (w .is)
+
+-- ---- the session
+
+reading-is : {s : List ℕ} {a : Reading} → TableRead s 0 1 a → a ≡ readingAt s 0 1
+reading-is {s} {a} f = table-exactly s 0 1 a .1 f
+
+pub only-session : OnlySession
+unfolding session
+only-session s text (no-table f) = ap (afterTable s) (reading-is f)
+only-session s text (runs {place = place} {line} f c) =
+    commands-only s _ (table-kept f) c (length s) emptyRecord ownMemory at-first (omega arith) ∙ ap (afterTable s) (reading-is f)

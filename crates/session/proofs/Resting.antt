@@ -1,0 +1,121 @@
+-- What is known between two commands, and the number that each command gets there. Assumes nothing.
+use mathlib.Core.Path.{_≡_, refl, sym, ap, _∙_}
+use mathlib.Core.Bool.{true, false}
+use mathlib.Core.Logic.{⊎-elim}
+use mathlib.Core.List.{List}
+use Prim.Native.Nat.{ℕ, _+_, _-_, _≤_, _<_}
+use native.Mathlib.Omega.{arith}
+use borrow.Author.Tests.{lt-ltb, le-ltb, le-leb, lt-leb}
+use lib.ListN.{length, length-replicate}
+use Rattle.lines.proofs.Values.{lt-or-ge}
+use Rattle.table.specs.First.{first}
+use Rattle.table.specs.Judge.{judgeTable}
+use Rattle.tree.specs.Replace.{part}
+use Rattle.tree.proofs.Handed.{or-zero}
+use Rattle.update.specs.declared.Record.{Record}
+use Rattle.update.specs.Records.{isOpen, beyond, shut, emptyRecord}
+use Rattle.update.specs.Memories.{Memory, nodesOf}
+use Rattle.update.specs.Refusals.{firstRefusal, short, heldRefusal, loadRefusal, passes, replaceRefusal, lookRefusals}
+use Rattle.update.proofs.Within.{short-means, all-shut}
+use Rattle.demands.specs.Engine.{ours}
+use Rattle.demands.specs.History.{History}
+use Rattle.demands.specs.Demands.{FinishedState}
+use Rattle.demands.proofs.Ours.{ours-2}
+use Rattle.session.specs.Session.{ownMemory}
+use Rattle.session.specs.Commands.{TreeHeld, no-tree, tree, Between, at-first, behind-history, LoadNumber, ReplaceNumber, too-many, judged, absent, outside}
+
+-- ---- behind a history
+
+pub finished-state : {t ns owns : List ℕ} {r : Record} {m : Memory} → History ours t ns owns r m → FinishedState ours t ns owns r m
+finished-state {t} {ns} {owns} {r} {m} h = ours-2 .holds t ns owns r m h
+
+-- ---- the memory is long enough, the record within its limits, and no update is open
+
+pub record Idle (r : Record) (m : Memory) : Type 0 where
+  pub long : short m ≡ false
+  pub within : beyond r ≡ false
+  pub idle : isOpen (r .«open») ≡ false
+
+own-long : short ownMemory ≡ false
+unfolding ownMemory
+own-long = short-means ownMemory .1 (record {
+  productions = omega (arith, length-replicate {A = ℕ} 512 0);
+  owns = omega (arith, length-replicate {A = ℕ} 512 0);
+  sets = omega (arith, length-replicate {A = ℕ} 4096 0);
+  before = omega (arith, length-replicate {A = ℕ} 4096 0);
+})
+
+pub rests : {t : List ℕ} {h : TreeHeld} {r : Record} {m : Memory} → Between t h r m → Idle r m
+unfolding emptyRecord
+rests at-first = record { long = own-long; within = all-shut false 0 .within (omega arith); idle = all-shut false 0 .closed }
+rests {m = m} (behind-history {ns = ns} h) =
+    let q = finished-state h in
+    record {
+      long = q .room;
+      within = ap beyond (q .closed) ∙ all-shut true (length ns) .within (q .sound .few);
+      idle = ap (λ (k : Record). isOpen (k .«open»)) (q .closed) ∙ all-shut true (length ns) .closed;
+    }
+
+-- the tree that is held, as record and memory have it
+pub record Kept (t ns owns : List ℕ) (r : Record) (m : Memory) : Type 0 where
+  pub held : r .held ≡ true
+  pub count : r .nodes ≡ length ns
+  pub nodes : nodesOf m (length ns) ≡ ns
+  pub sound : heldRefusal t m r ≡ 0
+
+pub keeps : {t ns owns : List ℕ} {r : Record} {m : Memory} → FinishedState ours t ns owns r m → Kept t ns owns r m
+unfolding shut
+keeps {t} {ns} {owns} {r} {m} q =
+    let n : r .nodes ≡ length ns = ap (λ (k : Record). k .nodes) (q .closed) in
+    record { held = ap (λ (k : Record). k .held) (q .closed); count = n; nodes = q .nodes; sound = rw (n, q .nodes, q .owned) (q .sound .tree) }
+
+none-held : emptyRecord .held ≡ false
+unfolding emptyRecord shut
+none-held = refl
+
+-- ---- the numbers
+
+module _ (t : List ℕ) {r : Record} {m : Memory} (i : Idle r m) (table : judgeTable t ≡ 0) where
+  pub load-number : (ns owns : List ℕ) → LoadNumber t ns owns (loadRefusal t m r ns owns)
+  unfolding loadRefusal first
+  load-number ns owns = rw (i .long, table, i .within, i .idle) (⊎-elim
+      (λ (h : 512 < length ns). rw (lt-ltb 512 (length ns) h) (too-many h))
+      (λ (h : length ns ≤ 512). rw (le-ltb 512 (length ns) h) (judged h (sym (or-zero _))))
+      (lt-or-ge 512 (length ns)))
+
+  replace-absent : r .held ≡ false → (point : ℕ) (new newOwns : List ℕ) → replaceRefusal t m r point new newOwns ≡ 16
+  unfolding replaceRefusal first
+  replace-absent held point new newOwns = rw (i .long, table, i .within, i .idle, held)
+
+  replace-held : {ns owns : List ℕ} → Kept t ns owns r m → (point : ℕ) (new newOwns : List ℕ)
+      → ReplaceNumber t point new newOwns (tree ns owns) (replaceRefusal t m r point new newOwns)
+  unfolding replaceRefusal passes first
+  replace-held {ns} k point new newOwns =
+      let left : ℕ = length ns - part t ns point + length new in
+      rw (i .long, table, i .within, i .idle, k .held, k .sound, k .count, k .nodes) (⊎-elim
+      (λ (h : point < length ns). rw (lt-leb (length ns) point h) (⊎-elim
+      (λ (l : 512 < left). rw (lt-ltb 512 left l) (too-many h l))
+      (λ (l : left ≤ 512). rw (le-ltb 512 left l) (judged h l (sym (or-zero _)))) (lt-or-ge 512 left)))
+      (λ (h : length ns ≤ point). rw (le-leb (length ns) point h) (outside h)) (lt-or-ge point (length ns)))
+
+  dump-absent : r .held ≡ false → firstRefusal (lookRefusals t m r 0) ≡ 16
+  unfolding first
+  dump-absent held = rw (i .long, table, i .within, i .idle, held)
+
+  dump-held : {ns owns : List ℕ} → Kept t ns owns r m → firstRefusal (lookRefusals t m r 0) ≡ 0
+  unfolding first
+  dump-held k = rw (i .long, table, i .within, i .idle, k .held, k .sound)
+
+pub replace-number : {t : List ℕ} {h : TreeHeld} {r : Record} {m : Memory} → Between t h r m → judgeTable t ≡ 0 → (point : ℕ) (new newOwns : List ℕ)
+    → ReplaceNumber t point new newOwns h (replaceRefusal t m r point new newOwns)
+replace-number {t} at-first table point new newOwns = rw (replace-absent t (rests {t = t} at-first) table none-held point new newOwns) absent
+replace-number {t} (behind-history h) table point new newOwns = replace-held t (rests (behind-history h)) table (keeps (finished-state h)) point new newOwns
+
+-- a dump's
+abbrev pub dumpNumber : TreeHeld → ℕ
+dumpNumber no-tree = 16
+dumpNumber (tree ns owns) = 0
+
+pub dump-number : {t : List ℕ} {h : TreeHeld} {r : Record} {m : Memory} → Between t h r m → judgeTable t ≡ 0 → firstRefusal (lookRefusals t m r 0) ≡ dumpNumber h
+dump-number {t} at-first table = dump-absent t (rests {t = t} at-first) table none-held
+dump-number {t} (behind-history h) table = dump-held t (rests (behind-history h)) table (keeps (finished-state h))

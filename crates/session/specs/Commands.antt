@@ -1,0 +1,144 @@
+-- A session as a relation between its text and what is printed for it: the table, the commands, and what our engine holds between them. No number bounds its
+-- frames, commands or steps, and it has no case for what never comes. Assumes nothing.
+use mathlib.Core.Path.{_≡_}
+use mathlib.Core.Bool.{Bool, true, false}
+use mathlib.Core.List.{List, [], _++_}
+use Prim.Native.Nat.{ℕ, _+_, _-_, _≤_, _<_}
+use lib.ListN.{length, getD}
+use Rattle.refusal.specs.Numbers.{numberOf}
+use Rattle.refusal.specs.declared.Refusal.{Refusal}
+use Rattle.table.specs.Words.{leftOf}
+use Rattle.tree.specs.Tree.{judgeTree}
+use Rattle.tree.specs.Replace.{part}
+use Rattle.wire.specs.Replaced.{nodesAfter, ownsAfter}
+use Rattle.update.specs.declared.Record.{Record}
+use Rattle.update.specs.Records.{emptyRecord}
+use Rattle.update.specs.Memories.{Memory}
+use Rattle.update.specs.Calls.{Said, said, Left, Opened, is-open, loadCall, replaceCall}
+use Rattle.demands.specs.Engine.{ours}
+use Rattle.demands.specs.History.{WorkedToDone, History}
+use Rattle.frames.specs.declared.Frame.{Frame}
+use Rattle.frames.specs.declared.Frame.the-variants.{Header, Symbol, Production, Equation, Node, Load, Replace, Dump, Refused, Over}
+use Rattle.frames.specs.Frames.{frameAt}
+use Rattle.frames.specs.Out.{refusalText}
+use Rattle.texts.specs.Reading as table
+use Rattle.texts.specs.Refused.{TableRead}
+use Rattle.planting.specs.Planting.{Nodes, good, bad, nodesAt}
+use Rattle.session.specs.Session.{session, ownMemory}
+use Rattle.session.specs.Lines.{LoadText, ReplacementText, SetsText}
+
+-- ---- between two commands
+
+-- the tree that is held: its nodes and own sets
+pub data TreeHeld : Type 0 where
+  no-tree : TreeHeld
+  tree : (ns owns : List ℕ) → TreeHeld
+
+-- and the engine's record and memory then: as at first, or as a history of our engine leaves them that ends with that tree
+pub data Between (t : List ℕ) : TreeHeld → Record → Memory → Type 0 where
+  at-first : Between t no-tree emptyRecord ownMemory
+  behind-history : {ns owns : List ℕ} {r : Record} {m : Memory} → History ours t ns owns r m → Between t (tree ns owns) r m
+
+-- ---- the number that a load or a replacement gets in a session, 0 where it is accepted. What else their orders of refusals name never comes between two
+-- commands: the memory is long enough, table, record and held tree are sound, and no update is open
+
+-- a load: 8 for too many nodes, else what the tree is judged by
+pub data LoadNumber (t ns owns : List ℕ) : ℕ → Type 0 where
+  too-many : 512 < length ns → LoadNumber t ns owns 8
+  judged : {n : ℕ} → length ns ≤ 512 → judgeTree t ns owns 0 ≡ n → LoadNumber t ns owns n
+
+-- a replacement: 16 where no tree is held, 9 for a point outside it, 8 where the tree would have too many nodes, else what the new part is judged by, whose root
+-- is to have the symbol of the point
+pub data ReplaceNumber (t : List ℕ) (point : ℕ) (new newOwns : List ℕ) : TreeHeld → ℕ → Type 0 where
+  absent : ReplaceNumber t point new newOwns no-tree 16
+  outside : {ns owns : List ℕ} → length ns ≤ point → ReplaceNumber t point new newOwns (tree ns owns) 9
+  too-many : {ns owns : List ℕ} → point < length ns → 512 < length ns - part t ns point + length new → ReplaceNumber t point new newOwns (tree ns owns) 8
+  judged : {ns owns : List ℕ} {n : ℕ} → point < length ns → length ns - part t ns point + length new ≤ 512
+      → judgeTree t new newOwns (leftOf t (getD ns point 0)) ≡ n → ReplaceNumber t point new newOwns (tree ns owns) n
+
+-- ---- a command of the text s, its first line at a place with a number
+
+-- a load or a replacement by its frame, and what was read for the lines behind it: its nodes with the place and the line that come next, or a bad line
+pub record CommandAt (s : List ℕ) (place line : ℕ) (kind : ℕ → Frame) (nodes : Nodes) : Type 0 where
+  pub count : ℕ
+  pub frame : frameAt s place line .frame ≡ kind count
+  pub found : nodesAt count s (frameAt s place line .place) (frameAt s place line .line) ≡ nodes
+
+-- a call that opened an update, which was worked to done: r and m are then the end of a history with the tree that was asked for
+pub record UpdateDone (t : List ℕ) (left : Left (Said Opened)) (ns owns : List ℕ) (r : Record) (m : Memory) : Type 0 where
+  pub opens : left .answer ≡ said is-open
+  pub circles : ℕ
+  pub evaluations : ℕ
+  pub changed : ℕ
+  pub worked : WorkedToDone ours t (left .next) (left .memory) circles evaluations changed r m
+  pub history : History ours t ns owns r m
+
+-- the command finds a tree, a record and a memory, prints a text, and leaves a place, a line, a tree, a record and a memory to those behind it
+pub data Command (s t : List ℕ) (place line : ℕ) : TreeHeld → Record → Memory → List ℕ → ℕ → ℕ → TreeHeld → Record → Memory → Type 0 where
+  -- refused at its line, with all as it was
+  load-refused : {h : TreeHeld} {r : Record} {m : Memory} {ns owns : List ℕ} {place′ line′ n : ℕ} → CommandAt s place line Load (good ns owns place′ line′)
+      → LoadNumber t ns owns n → 0 < n → Command s t place line h r m (refusalText n line) place′ line′ h r m
+  loads : {h : TreeHeld} {r r′ : Record} {m m′ : Memory} {ns owns text : List ℕ} {place′ line′ : ℕ} → CommandAt s place line Load (good ns owns place′ line′)
+      → LoadNumber t ns owns 0 → UpdateDone t (loadCall t m r ns owns) ns owns r′ m′ → LoadText t ns owns text
+      → Command s t place line h r m text place′ line′ (tree ns owns) r′ m′
+  replacement-refused : {h : TreeHeld} {r : Record} {m : Memory} {new newOwns : List ℕ} {place′ line′ n : ℕ} (point : ℕ)
+      → CommandAt s place line (Replace point) (good new newOwns place′ line′) → ReplaceNumber t point new newOwns h n → 0 < n
+      → Command s t place line h r m (refusalText n line) place′ line′ h r m
+  replaces : {r r′ : Record} {m m′ : Memory} {ns owns new newOwns text : List ℕ} {place′ line′ : ℕ} (point : ℕ)
+      → CommandAt s place line (Replace point) (good new newOwns place′ line′) → ReplaceNumber t point new newOwns (tree ns owns) 0
+      → UpdateDone t (replaceCall t m r point new newOwns) (nodesAfter t ns new point) (ownsAfter t ns owns newOwns point) r′ m′
+      → ReplacementText t ns owns point new newOwns text
+      → Command s t place line (tree ns owns) r m text place′ line′ (tree (nodesAfter t ns new point) (ownsAfter t ns owns newOwns point)) r′ m′
+  -- refused where no tree is held
+  dump-refused : {r : Record} {m : Memory} → frameAt s place line .frame ≡ Dump
+      → Command s t place line no-tree r m (refusalText 16 line) (frameAt s place line .place) (frameAt s place line .line) no-tree r m
+  dumps : {r : Record} {m : Memory} {ns owns text : List ℕ} → frameAt s place line .frame ≡ Dump → SetsText t ns owns text
+      → Command s t place line (tree ns owns) r m text (frameAt s place line .place) (frameAt s place line .line) (tree ns owns) r m
+
+-- ---- the commands
+
+-- a frame of a table, or a node: no command begins with it
+abbrev pub outOfPlace : Frame → Bool
+outOfPlace (Header a b) = true
+outOfPlace (Symbol a b) = true
+outOfPlace (Production a b c) = true
+outOfPlace (Equation a b c d) = true
+outOfPlace (Node a b) = true
+outOfPlace (Load a) = false
+outOfPlace (Replace a b) = false
+outOfPlace Dump = false
+outOfPlace (Refused a b) = false
+outOfPlace Over = false
+
+-- where they end: the text is over between two commands, or a line is bad or out of place, the command's own or one of its nodes'
+pub data Stops (s : List ℕ) (place line : ℕ) : List ℕ → Type 0 where
+  over : frameAt s place line .frame ≡ Over → Stops s place line []
+  bad-line : {refusal : Refusal} {at : ℕ} → frameAt s place line .frame ≡ Refused refusal at → Stops s place line (refusalText (numberOf refusal) at)
+  misplaced : outOfPlace (frameAt s place line .frame) ≡ true → Stops s place line (refusalText 14 line)
+  bad-load : {refusal : Refusal} {at : ℕ} → CommandAt s place line Load (bad refusal at) → Stops s place line (refusalText (numberOf refusal) at)
+  bad-replacement : {refusal : Refusal} {at : ℕ} (point : ℕ) → CommandAt s place line (Replace point) (bad refusal at)
+      → Stops s place line (refusalText (numberOf refusal) at)
+
+-- one command behind the other, from a place and a line on
+pub data Commands (s t : List ℕ) : ℕ → ℕ → TreeHeld → Record → Memory → List ℕ → Type 0 where
+  stops : {place line : ℕ} {h : TreeHeld} {r : Record} {m : Memory} {text : List ℕ} → Stops s place line text → Commands s t place line h r m text
+  goes-on : {place line place′ line′ : ℕ} {h h′ : TreeHeld} {r r′ : Record} {m m′ : Memory} {text rest : List ℕ}
+      → Command s t place line h r m text place′ line′ h′ r′ m′ → Between t h′ r′ m′ → Commands s t place′ line′ h′ r′ m′ rest
+      → Commands s t place line h r m (text ++ rest)
+
+-- ---- the session
+
+-- all that is printed for the text s: the refusal of its table, or what its commands print, with no tree at first
+pub data Session (s : List ℕ) : List ℕ → Type 0 where
+  no-table : {refusal : Refusal} {line : ℕ} → TableRead s 0 1 (table.stop refusal line)
+      → Session s (refusalText (numberOf refusal) line)
+  runs : {t text : List ℕ} {place line : ℕ} → TableRead s 0 1 (table.done t place line)
+      → Commands s t place line no-tree emptyRecord ownMemory text → Session s text
+
+-- what the definition computes is such a session, for every text
+abbrev pub EverySession : Type 0
+EverySession = (s : List ℕ) → Session s (session s)
+
+-- and no other text is one
+abbrev pub OnlySession : Type 0
+OnlySession = (s text : List ℕ) → Session s text → text ≡ session s
