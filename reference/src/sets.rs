@@ -3,6 +3,9 @@
 /// A set of reasons: reason n is bit n.
 pub type Set = u64;
 
+/// How many reasons op 7 counts. Those from this one on are notes.
+pub const COUNTED: u32 = 56;
+
 /// What an equation does. Op 1 and op 8 are no cases of their own: for a given node they are
 /// `Constant` and `Add` with the node's own set as the constant.
 #[derive(Clone, Copy, Debug, PartialEq, Eq)]
@@ -48,9 +51,15 @@ impl<A: Copy> Formula<A> {
             Op::Join => set(a) | set(b),
             Op::Meet => set(a) & set(b),
             Op::IfAll => when(set(a) & c == c, set(b)),
-            Op::IfCount => when(u64::from(set(a).count_ones()) >= c, set(b)),
+            Op::IfCount => when(count(set(a)) >= c, set(b)),
         }
     }
+}
+
+/// How many members op 7 counts: the notes are shifted out.
+#[inline]
+fn count(a: Set) -> u64 {
+    (a << (Set::BITS - COUNTED)).count_ones().into()
 }
 
 fn when(open: bool, value: Set) -> Set {
@@ -78,7 +87,11 @@ mod tests {
         assert_eq!(value(Op::IfCount, 0, b, 0), b);
         assert_eq!(value(Op::IfCount, 5, b, 2), b);
         assert_eq!(value(Op::IfCount, 4, b, 2), 0);
-        assert_eq!(value(Op::IfCount, Set::MAX, b, 64), b);
+        assert_eq!(value(Op::IfCount, Set::MAX, b, 56), b);
+        assert_eq!(value(Op::IfCount, Set::MAX - 1, b, 56), 0);
+        assert_eq!(value(Op::IfCount, 3 | 1 << 56, b, 2), b);
+        assert_eq!(value(Op::IfCount, 1 | 1 << 56, b, 2), 0);
+        assert_eq!(value(Op::IfCount, 1 | 1 << 55, b, 2), b);
         assert_eq!(value(Op::Keep, 7, 0, 5), 5);
         assert_eq!(value(Op::Add, 1, 0, 2), 3);
     }

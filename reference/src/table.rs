@@ -4,14 +4,12 @@ use std::io::Read;
 
 use crate::frames::{EquationFields, Frame, Frames, Node, Occurrence};
 use crate::refusal::{Halt, Refusal};
-use crate::sets::{Formula, Op};
+use crate::sets::{Formula, Op, COUNTED};
 
 const SYMBOLS: u8 = 32;
 const PRODUCTIONS: u8 = 64;
 const SETS: u8 = 4;
 const CHILDREN: u8 = 4;
-/// The most members that a set can have.
-const MEMBERS: u64 = 64;
 /// The least index of an inherited set.
 const INHERITED: u8 = 4;
 
@@ -191,7 +189,7 @@ impl Table {
 }
 
 /// The operation of an equation: none where it is unknown, an unused field isn't zero, or op 7
-/// asks for more members than a set can have.
+/// asks for more members than it counts.
 fn operation(fields: EquationFields) -> Option<Op> {
     let EquationFields { op: number, a, b, c } = fields;
     let op = match number {
@@ -201,7 +199,7 @@ fn operation(fields: EquationFields) -> Option<Op> {
         4 => Op::Join,
         5 => Op::Meet,
         6 => Op::IfAll,
-        7 if c <= MEMBERS => Op::IfCount,
+        7 if c <= COUNTED.into() => Op::IfCount,
         _ => return None,
     };
     let zero = Occurrence { position: 0, index: 0 };

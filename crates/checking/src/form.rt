@@ -46,7 +46,7 @@ fn is_stray(used: bool, field: u64) -> bool
     0 < field
 }
 
-// 4: op above 8, an unused field not zero, or op 7 with c above 64.
+// 4: op above 8, an unused field not zero, or op 7 with c above 56.
 pub fn is_misformed(head: u64, c: u64) -> bool
     ensures { λ r. ⌜ r ≡ misformed head c ⌝ }
 {
@@ -64,7 +64,7 @@ pub fn is_misformed(head: u64, c: u64) -> bool
         return true;
     }
     if op == 7 {
-        return 64 < c;
+        return 56 < c;
     }
     false
 }

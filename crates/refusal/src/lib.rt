@@ -8,7 +8,7 @@ pub enum Refusal {
     Symbol,
     // 3: symbol 0 has an inherited set
     Start,
-    // 4: op above 8, an unused field not zero, or op 7 with c above 64
+    // 4: op above 8, an unused field not zero, or op 7 with c above 56
     Form,
     // 5: an argument names no declared occurrence
     Argument,

@@ -14,7 +14,7 @@ use Rattle.sets.specs.Operations.{within, valueOf}
 use Rattle.sets.specs.Arguments.{argumentsOf, valueAt}
 use Rattle.sets.specs.Laws.{Gains, Local, Fits, constantOf}
 use Rattle.sets.proofs.Order.{sub-refl, sub-trans, sub-zero, sub-of-eq, sub-antisym, and-mono, or-mono, sub-test, test-sub}
-use Rattle.sets.proofs.Growth.{counted}
+use Rattle.sets.proofs.Growth.{compared}
 
 -- ---- the gates of operations 6 and 7
 
@@ -34,7 +34,7 @@ all-mono c {a} {a′} p q = gate-mono (within c a) (within c a′) (λ t. sub-wi
 
 many-mono : (c : ℕ) {a a′ b b′ : ℕ} → a ⊑ a′ → b ⊑ b′ → cond (leb c (countOf a)) b 0 ⊑ cond (leb c (countOf a′)) b′ 0
 many-mono c {a} {a′} p q =
-    gate-mono (leb c (countOf a)) (leb c (countOf a′)) (λ t. le→leb c (countOf a′) (le-trans (leb→le c (countOf a) t) (counted .compared p))) q
+    gate-mono (leb c (countOf a)) (leb c (countOf a′)) (λ t. le→leb c (countOf a′) (le-trans (leb→le c (countOf a) t) (compared .grows p))) q
 
 gate-lt : (p : Bool) {b : ℕ} → b < 2 ^ 64 → cond p b 0 < 2 ^ 64
 gate-lt true h = h

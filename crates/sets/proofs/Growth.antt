@@ -1,14 +1,15 @@
--- How many members a set has grows with the set. Assumes nothing.
-use mathlib.Core.Path.{_≡_, sym}
+-- How many members a set has grows with the set, and so does how many of them count. Assumes nothing.
+use mathlib.Core.Path.{_≡_, sym, ap, _∙_}
 use mathlib.Core.Logic.{⊎-elim}
-use Prim.Native.Nat.{ℕ, _/_, _≤_, _<_, zero-le}
-use native.Mathlib.Nat.{eq-or-lt-of-le}
+use Prim.Native.Nat.{ℕ, _+_, _-_, _/_, _%_, _^_, _≤_, _<_, zero-le}
+use native.Mathlib.Nat.{lt-irrefl, eq-or-lt-of-le, div-add-mod', add-comm}
 use native.Mathlib.Omega.{arith}
 use lib.Arith.{bin-ind}
-use lib.Count.{ones, ones-step, ones-le}
+use lib.Bits.{and-mask, mask-lt}
+use lib.Count.{ones, ones-step, ones-cat, ones-ones, ones-le}
 use Rattle.sets.specs.Members.{_⊑_}
-use Rattle.sets.specs.Laws.{Counted}
-use Rattle.sets.proofs.Order.{sub-half, zero-of-sub}
+use Rattle.sets.specs.Laws.{Counted, Compared}
+use Rattle.sets.proofs.Order.{sub-refl, sub-half, sub-zero, zero-of-sub, and-mono}
 
 ones-mono′ : (a b : ℕ) → a ⊑ b → ones a ≤ ones b
 unfolding ones
@@ -34,4 +35,25 @@ pub ones-lt : {a b : ℕ} → a ⊑ b → (a ≡ b → ⊥) → ones a < ones b
 ones-lt {a} {b} p ne = ⊎-elim (λ e. absurd (ne (ones-eq p e))) (λ l. l) (eq-or-lt-of-le (ones-mono p))
 
 pub counted : Counted
-counted = record { grows = ones-mono; strictly = ones-lt; most = λ a h. ones-le 64 a h; compared = ones-mono }
+counted = record { grows = ones-mono; strictly = ones-lt; most = λ a h. ones-le 64 a h }
+
+-- ---- the members below code k, as a remainder
+
+sub-below : (k : ℕ) {a b : ℕ} → a ⊑ b → a % 2 ^ k ⊑ b % 2 ^ k
+sub-below k {a} {b} p = rw (and-mask a k, and-mask b k) at (and-mono p (sub-refl (2 ^ k - 1)))
+
+below-lt : (k a : ℕ) → a % 2 ^ k < 2 ^ k
+below-lt k a = rw (and-mask a k) at (mask-lt a k)
+
+-- they and those from k on are all
+ones-parts : (k a : ℕ) → ones a ≡ ones (a % 2 ^ k) + ones (a / 2 ^ k)
+ones-parts k a = ap ones (sym (div-add-mod' a (2 ^ k))) ∙ ones-cat k (a / 2 ^ k) (a % 2 ^ k) (below-lt k a) ∙ add-comm _ _
+
+pub compared : Compared
+compared = record {
+  grows = λ p. ones-mono (sub-below 56 p);
+  not-strict = λ h. lt-irrefl (ones 0) (h 0 (2 ^ 56) (sub-zero (2 ^ 56)) (λ e. absurd (omega (arith, e))));
+  notes = ones-parts 56;
+  most = λ a. ones-le 56 (a % 2 ^ 56) (below-lt 56 a);
+  reached = ones-ones 56;
+}

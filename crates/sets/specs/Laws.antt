@@ -1,7 +1,7 @@
 -- What is promised of sets and operations; the proofs are in proofs/. Assumes nothing.
 use mathlib.Core.Path.{_≡_}
 use mathlib.Core.List.{List, List·Memᴰ}
-use Prim.Native.Nat.{ℕ, _<_, _≤_, _^_}
+use Prim.Native.Nat.{ℕ, _+_, _-_, _/_, _<_, _≤_, _^_}
 use lib.Bits.{bitAnd, bitOr}
 use Rattle.sets.specs.declared.Argument.{Argument}
 use Rattle.sets.specs.declared.Op.{Op}
@@ -23,12 +23,20 @@ pub record Lattice : Type 0 where
   pub lub-right : (a b : ℕ) → b ⊑ bitOr a b
   pub lub-least : {a b c : ℕ} → a ⊑ c → b ⊑ c → bitOr a b ⊑ c
 
--- the member count grows with a set, strictly where the set does; 64 at most; and so does what operation 7 compares
+-- the measure of a climb: it grows with a set, strictly where the set does; 64 at most
 pub record Counted : Type 0 where
   pub grows : {a b : ℕ} → a ⊑ b → membersOf a ≤ membersOf b
   pub strictly : {a b : ℕ} → a ⊑ b → (a ≡ b → ⊥) → membersOf a < membersOf b
   pub most : (a : ℕ) → a < 2 ^ 64 → membersOf a ≤ 64
-  pub compared : {a b : ℕ} → a ⊑ b → countOf a ≤ countOf b
+
+-- what operation 7 compares: it grows with a set, though not strictly, so that it can't be the measure: a set may gain notes alone;
+-- the notes are what it leaves out of the measure, and nothing else is; 56 at most, which the set of all that count has: every c up to 56 is reached, and none above
+pub record Compared : Type 0 where
+  pub grows : {a b : ℕ} → a ⊑ b → countOf a ≤ countOf b
+  pub not-strict : ((a b : ℕ) → a ⊑ b → (a ≡ b → ⊥) → countOf a < countOf b) → ⊥
+  pub notes : (a : ℕ) → membersOf a ≡ countOf a + membersOf (a / 2 ^ 56)
+  pub most : (a : ℕ) → countOf a ≤ 56
+  pub reached : countOf (2 ^ 56 - 1) ≡ 56
 
 -- each operation never loses members when what it reads gains some
 abbrev pub Gains : Type 0

@@ -1,6 +1,6 @@
 -- "A set is 64 bits: reason code n is bit n, and 0 is the empty set." Assumes nothing.
 use mathlib.Core.Path.{_≡_}
-use Prim.Native.Nat.{ℕ, zero, suc, _/_, _%_, _≤_}
+use Prim.Native.Nat.{ℕ, zero, suc, _/_, _%_, _^_, _≤_}
 use lib.Count.{ones}
 
 infix 4 _⊑_
@@ -13,13 +13,13 @@ digit (suc n) a = digit n (a / 2)
 pub record _⊑_ (a b : ℕ) : Type 0 where
   pub at : (n : ℕ) → digit n a ≤ digit n b
 
--- how many members a set has: the measure of a climb
+-- how many members a set has, notes included: the measure of a climb
 abbrev pub membersOf : ℕ → ℕ
 membersOf a = ones a
 
--- the count that operation 7 compares with its constant: all members
+-- the count that operation 7 compares with its constant: codes 56 to 63 are notes and don't count, so it is that of the members 0 to 55
 abbrev pub countOf : ℕ → ℕ
-countOf a = ones a
+countOf a = membersOf (a % 2 ^ 56)
 
 -- ---- what `members` and `count` promise: of a set, how many members it has, and how many operation 7 counts
 abbrev pub MembersSay : ℕ → ℕ → Type 0

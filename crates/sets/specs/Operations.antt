@@ -14,7 +14,7 @@ abbrev pub within : ℕ → ℕ → Bool
 within c a = eqb (bitAnd c a) c
 
 -- the table of operations: 0 c; 1 the own set of the left node; 2 a joined with c; 3 members of a also in c; 4 a joined with b;
--- 5 members in both a and b; 6 b if every member of c is in a, else empty; 7 b if a has at least c members, else empty; 8 a joined with the own set
+-- 5 members in both a and b; 6 b if every member of c is in a, else empty; 7 b if a has at least c members that count, else empty; 8 a joined with the own set
 unfoldable pub valueOf : Op → ℕ → ℕ → ℕ → ℕ
 valueOf (Constant c) own a b = c
 valueOf Own own a b = own

@@ -1,4 +1,5 @@
 // Sets of hold reasons, and the equations over them. A set is 64 bits: reason code n is bit n, and 0 is the empty set.
+// Codes 56 to 63 are notes: members like the others, but operation 7 does not count them.
 ghost use Rattle.sets.specs.Members.{MembersSay, CountSays};
 ghost use Rattle.sets.specs.Operations.{ValueSays};
 
@@ -24,7 +25,7 @@ pub enum Op {
     Meet(Argument, Argument),
     // 6: b if every member of c is in a, else empty
     IfAll(Argument, Argument, u64),
-    // 7: b if a has at least c members, else empty
+    // 7: b if a has at least c members that count, else empty
     IfMany(Argument, Argument, u64),
     // 8: a joined with the own set
     JoinOwn(Argument),
@@ -35,18 +36,21 @@ pub struct Equation {
     pub op: Op,
 }
 
-// How many members a set has: what bounds the rounds of a climb.
+// The set of the first note alone: a set's remainder by it holds its members 0 to 55.
+const FIRST_NOTE: u64 = 0x0100_0000_0000_0000;
+
+// How many members a set has, notes included: what bounds the rounds of a climb.
 pub fn members(a: u64) -> u64
     ensures { λ r. ⌜ MembersSay a r ⌝ }
 {
     u64::count_ones(a) as u64
 }
 
-// The number that operation 7 compares with c. It is another name than `members`: a rule book may leave codes out of it.
+// The number that operation 7 compares with c: how many members a set has that aren't notes.
 pub fn count(a: u64) -> u64
     ensures { λ r. ⌜ CountSays a r ⌝ }
 {
-    members(a)
+    members(a % FIRST_NOTE)
 }
 
 // The value of an equation where the left node's own set is `own` and its arguments are `a` and `b`.

@@ -61,12 +61,12 @@ unused-back : (u : Bool) (x : ℕ) → (u ≡ false → x ≡ 0) → (not u && l
 unused-back true x f = refl
 unused-back false x f = let e = f refl in le-ltb 0 x (omega arith)
 
-seven : (b : Bool) (o c : ℕ) → eqb o 7 ≡ b → (b && ltb 64 c) ≡ false → o ≡ 7 → c ≤ 64
-seven true o c e h q = ltb-false 64 c h
+seven : (b : Bool) (o c : ℕ) → eqb o 7 ≡ b → (b && ltb 56 c) ≡ false → o ≡ 7 → c ≤ 56
+seven true o c e h q = ltb-false 56 c h
 seven false o c e h q = absurd (eqb-false o 7 e q)
 
-seven-back : (b : Bool) (o c : ℕ) → eqb o 7 ≡ b → (o ≡ 7 → c ≤ 64) → (b && ltb 64 c) ≡ false
-seven-back true o c e f = le-ltb 64 c (f (eqb-true o 7 e))
+seven-back : (b : Bool) (o c : ℕ) → eqb o 7 ≡ b → (o ≡ 7 → c ≤ 56) → (b && ltb 56 c) ≡ false
+seven-back true o c e f = le-ltb 56 c (f (eqb-true o 7 e))
 seven-back false o c e f = refl
 
 pub formed : (h c : ℕ) → misformed h c ≡ false → Formed h c

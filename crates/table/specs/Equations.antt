@@ -48,11 +48,11 @@ usesB op = leb 4 op && leb op 7
 unfoldable pub usesC : ℕ → Bool
 usesC op = eqb op 0 || eqb op 2 || eqb op 3 || eqb op 6 || eqb op 7
 
--- "op above 8, an unused field not zero, or op 7 with c above 64"
+-- op above 8, an unused field not zero, or op 7 with c above 56: more than there are codes that count
 unfoldable pub misformed : ℕ → ℕ → Bool
 misformed h c =
     ltb 8 (opNumber h)
     || not (usesA (opNumber h)) && ltb 0 (aField h)
     || not (usesB (opNumber h)) && ltb 0 (bField h)
     || not (usesC (opNumber h)) && ltb 0 c
-    || eqb (opNumber h) 7 && ltb 64 c
+    || eqb (opNumber h) 7 && ltb 56 c

@@ -35,3 +35,11 @@ a-refused :
     × (judgeTable (put tableA 137 34360066049) ≡ 4)
 unfolding tableA put judgeTable first row someBelow symbolCount productionCount synthesized inherited leftOf childCount childOf hasSet occurs ruleOf headAt constantAt opNumber aField bField usesA usesB usesC misformed partOf frames misnamed refusalAt
 a-refused = (refl, refl, refl, refl, refl, refl, refl)
+
+-- an operation 7 with c 56 is sound, with c 57 it is not
+a-counts :
+    let counting = put tableA 137 30065033220 in
+    (judgeTable (put counting 138 56) ≡ 0)
+    × (judgeTable (put counting 138 57) ≡ 4)
+unfolding tableA put judgeTable first row someBelow symbolCount productionCount synthesized inherited leftOf childCount childOf hasSet occurs ruleOf headAt constantAt opNumber aField bField usesA usesB usesC misformed partOf frames misnamed refusalAt
+a-counts = (refl, refl)

@@ -1,8 +1,8 @@
--- "Marked (P) are proved together as a single table under one claim": cases 1 to 9 of "On either side of each line". Assumes nothing.
+-- "Marked (P) are proved together as a single table under one claim": cases 1 to 9 of "On either side of each line", and 10 with notes. Assumes nothing.
 use mathlib.Core.Path.{_≡_}
 use mathlib.Core.Bool.{Bool, true, false, cond, _&&_}
 use mathlib.Core.List.{List, [], _∷_, _++_, map}
-use Prim.Native.Nat.{ℕ, zero, suc}
+use Prim.Native.Nat.{ℕ, zero, suc, _+_, _^_}
 use lib.Dec.{eqb}
 use lib.ListN.{replicate}
 use Rattle.sets.specs.declared.Argument.{Argument}
@@ -17,7 +17,7 @@ use Rattle.update.specs.Memories.{Memory}
 use Rattle.update.specs.Steps.{Outcome, round, done}
 use Rattle.update.specs.Calls.{Said, refused, said, loadCall, replaceCall, stepCall}
 
--- a case: what the definitions give, and what document 01 says that they give
+-- a case: what the definitions give, and what the papers say that they give
 pub record Case : Type 0 where
   pub number : ℕ
   pub given : List ℕ
@@ -116,6 +116,8 @@ cases =
       given = replaceA 2 .told;
       wanted = 17 ∷ 8 ∷ 1 ∷ 1 ∷ 1 ∷ 17 ∷ 20 ∷ 1 ∷ 1 ∷ 1 ∷ 17 ∷ 16 ∷ 1 ∷ 1 ∷ 1 ∷ 17 ∷ 0 ∷ 1 ∷ 1 ∷ 1 ∷ 17 ∷ 12 ∷ 1 ∷ 1 ∷ 1 ∷ 18 ∷ 5 ∷ 5 ∷ 5 ∷ [];
     }
+    -- op 7, c = 2, a two members that count and a note gives b; one and a note gives empty
+    ∷ record { number = 10; given = valueOf (IfMany some some 2) 0 (3 + 2 ^ 56) 6 ∷ valueOf (IfMany some some 2) 0 (1 + 2 ^ 56) 6 ∷ []; wanted = 6 ∷ 0 ∷ [] }
     ∷ []
 
 -- the claim

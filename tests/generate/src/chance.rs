@@ -1,5 +1,8 @@
 //! Chance that is the same again for the same seed, on every machine.
 
+/// Reasons 56 to 63, which op 7 doesn't count.
+pub const NOTES: u64 = 0xff << 56;
+
 /// Vigna's splitmix64: small, and good enough to draw sessions with.
 pub struct Chance {
     state: u64,
@@ -40,15 +43,30 @@ impl Chance {
         self.word() as u8
     }
 
-    /// A reason set: empty, one reason, a few, many, or all.
+    /// A reason set: empty, one reason, a few, many, all, or about as many as op 7 can count.
     pub fn set(&mut self) -> u64 {
-        match self.below(8) {
+        match self.below(10) {
             0 | 1 => 0,
             2 | 3 => 1 << self.below(64),
             4 => self.word() & 15,
             5 => self.word() & self.word() & self.word(),
             6 => self.word(),
-            _ => self.pick(&[1, 2, 3, 1 << 63, u64::MAX]),
+            7 => self.notes() | self.word() & 3,
+            8 => self.notes() | self.nearly_all(),
+            _ => self.pick(&[1, 2, 3, 1 << 55, 1 << 56, 1 << 63, u64::MAX]),
         }
+    }
+
+    /// Notes alone: none, one, some or all.
+    fn notes(&mut self) -> u64 {
+        let one = 1 << self.between(56, 63);
+        let some = self.word();
+        self.pick(&[0, one, some, u64::MAX]) & NOTES
+    }
+
+    /// All reasons that aren't notes, but for up to three.
+    fn nearly_all(&mut self) -> u64 {
+        let missing = self.below(4);
+        (0..missing).fold(!NOTES, |set, _| set & !(1 << self.below(56)))
     }
 }

@@ -5,7 +5,7 @@ use crate::text::{frame_of, line, Text};
 
 type Damage = fn(&mut Chance, &mut Text);
 
-const KINDS: [Damage; 30] = [
+const KINDS: [Damage; 32] = [
     // A field changed inside a good frame is how tables come to be refused: so, several times.
     another_field,
     another_field,
@@ -14,6 +14,8 @@ const KINDS: [Damage; 30] = [
     another_field,
     another_field,
     counts_at_limits,
+    members_at_limit,
+    members_at_limit,
     members_at_limit,
     more_children,
     another_digit,
@@ -77,7 +79,7 @@ fn another_field(chance: &mut Chance, text: &mut Text) {
         return;
     }
     let field = if chance.one_in(3) { frame.len() - 1 } else { chance.between(1, frame.len() - 1) };
-    let beside = [0, 1, 2, 3, 4, 5, 6, 7, 8, 9, 31, 32, 33, 63, 64, 65, 255];
+    let beside = [0, 1, 2, 3, 4, 5, 6, 7, 8, 9, 31, 32, 33, 55, 56, 57, 63, 64, 65, 255];
     frame[field] = match chance.below(3) {
         0 => frame[field].wrapping_add(1),
         1 => frame[field].wrapping_sub(1),
@@ -101,18 +103,18 @@ fn counts_at_limits(chance: &mut Chance, text: &mut Text) {
     }
 }
 
-/// An equation with op 7 that asks for about as many members as a set can have.
+/// An equation with op 7 that asks for about as many members as it can count.
 fn members_at_limit(chance: &mut Chance, text: &mut Text) {
-    let from = any_line(chance, text);
-    let counts = |line: &&mut Vec<u8>| line.starts_with(b"0407") && line.len() == 29;
-    if let Some(found) = text.lines[from..].iter_mut().find(counts) {
-        let mut frame = frame_of(found);
-        if let Some(c) = frame.get_mut(6..) {
-            let wanted: u64 = chance.pick(&[63, 64, 65, 65, 66, 128, 256, 1 << 32, u64::MAX]);
-            c.copy_from_slice(&wanted.to_be_bytes());
-        }
-        *found = line(&frame);
+    let wanted: u64 = chance.pick(&[54, 55, 56, 57, 57, 58, 58, 64, 256, 1 << 32, u64::MAX]);
+    let counts = |line: &Vec<u8>| line.starts_with(b"0407") && frame_of(line).len() == 14;
+    let counting: Vec<usize> =
+        (0..text.lines.len()).filter(|&at| counts(&text.lines[at])).collect();
+    if counting.is_empty() {
+        return;
     }
+    let at = chance.pick(&counting);
+    let head = &frame_of(&text.lines[at])[..6];
+    text.lines[at] = line(&[head, &wanted.to_be_bytes()].concat());
 }
 
 /// A production frame with more children than it may have, and as long as it then should be.

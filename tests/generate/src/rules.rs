@@ -282,8 +282,8 @@ fn with_op(chance: &mut Chance, op: u8, liked: &[Occurrence]) -> Equation {
         4 | 5 => Equation { op, a, b, c: 0 },
         6 => Equation { op, a, b, c: chance.pick(&[0, 1, 2, c & 15, c]) },
         7 => {
-            let any = chance.between(0, 64) as u64;
-            Equation { op, a, b, c: chance.pick(&[0, 1, 2, 3, 64, any]) }
+            let any = chance.between(0, 56) as u64;
+            Equation { op, a, b, c: chance.pick(&[0, 1, 2, 3, 54, 55, 56, any]) }
         }
         _ => Equation { op: 8, a, b: none, c: 0 },
     }

@@ -29,6 +29,7 @@ impl Survey {
         self.count("sessions with an update done", (updates > 0).into());
         self.count("sessions with a circle of 1,000 or more", (size >= 1000).into());
         self.count("sessions with a dump", (of_kind(0x13).count() > 0).into());
+        self.count_limits(session);
         self.count("updates done", updates as u64);
         self.count("rounds made", rounds as u64);
         self.measure("bytes of a text", session.text.len() as u64);
@@ -36,6 +37,24 @@ impl Survey {
         self.measure("rounds of a circle", round);
         self.measure("evaluations of an update", greatest(0x12, 3, 7));
         self.count_refusals(of_kind(0x1f).map(|frame| number(frame.get(1..2))).collect());
+    }
+
+    /// A session counts once for each c that its op 7 asks for about the limit, and once if
+    /// there are notes for op 7 to leave out.
+    fn count_limits(&mut self, session: &Session) {
+        let frames: Vec<Vec<u8>> =
+            session.text.split(|&byte| byte == b'\n').map(frame_of).collect();
+        let counting = |frame: &&Vec<u8>| frame.len() == 14 && frame.starts_with(&[0x04, 0x07]);
+        let mut asked: Vec<u64> =
+            frames.iter().filter(counting).map(|frame| number(frame.get(6..14))).collect();
+        asked.sort_unstable();
+        asked.dedup();
+        for c in asked.iter().filter(|c| (54..=58).contains(*c)) {
+            self.count(&format!("sessions where op 7 asks for {c}"), 1);
+        }
+        let noted = |frame: &Vec<u8>| frame.len() == 10 && frame[0] == 0x05 && frame[2] != 0;
+        let notes = !asked.is_empty() && frames.iter().any(noted);
+        self.count("sessions with op 7 and a node with notes", notes.into());
     }
 
     pub fn join(&mut self, other: Survey) {
