@@ -2,10 +2,11 @@
 use mathlib.Core.Path.{_≡_, sym, ap, _∙_}
 use mathlib.Core.Logic.{⊎-elim}
 use Prim.Native.Nat.{ℕ, _+_, _-_, _/_, _%_, _^_, _≤_, _<_, zero-le}
-use native.Mathlib.Nat.{lt-irrefl, eq-or-lt-of-le, div-add-mod', add-comm}
+use native.Mathlib.Nat.{lt-irrefl, eq-or-lt-of-le, mod-lt, div-add-mod', add-comm}
 use native.Mathlib.Omega.{arith}
 use lib.Arith.{bin-ind}
-use lib.Bits.{and-mask, mask-lt}
+use lib.Pow.{pow-pos}
+use lib.Bits.{and-mask}
 use lib.Count.{ones, ones-step, ones-cat, ones-ones, ones-le}
 use Rattle.sets.specs.Members.{_⊑_}
 use Rattle.sets.specs.Laws.{Counted, Compared}
@@ -42,18 +43,15 @@ counted = record { grows = ones-mono; strictly = ones-lt; most = λ a h. ones-le
 sub-below : (k : ℕ) {a b : ℕ} → a ⊑ b → a % 2 ^ k ⊑ b % 2 ^ k
 sub-below k {a} {b} p = rw (and-mask a k, and-mask b k) at (and-mono p (sub-refl (2 ^ k - 1)))
 
-below-lt : (k a : ℕ) → a % 2 ^ k < 2 ^ k
-below-lt k a = rw (and-mask a k) at (mask-lt a k)
-
 -- they and those from k on are all
 ones-parts : (k a : ℕ) → ones a ≡ ones (a % 2 ^ k) + ones (a / 2 ^ k)
-ones-parts k a = ap ones (sym (div-add-mod' a (2 ^ k))) ∙ ones-cat k (a / 2 ^ k) (a % 2 ^ k) (below-lt k a) ∙ add-comm _ _
+ones-parts k a = ap ones (sym (div-add-mod' a (2 ^ k))) ∙ ones-cat k (a / 2 ^ k) (a % 2 ^ k) (mod-lt a (pow-pos k)) ∙ add-comm _ _
 
 pub compared : Compared
 compared = record {
   grows = λ p. ones-mono (sub-below 56 p);
   not-strict = λ h. lt-irrefl (ones 0) (h 0 (2 ^ 56) (sub-zero (2 ^ 56)) (λ e. absurd (omega (arith, e))));
   notes = ones-parts 56;
-  most = λ a. ones-le 56 (a % 2 ^ 56) (below-lt 56 a);
+  most = λ a. ones-le 56 (a % 2 ^ 56) (mod-lt a (pow-pos 56));
   reached = ones-ones 56;
 }

@@ -1,7 +1,7 @@
 //! Chance that is the same again for the same seed, on every machine.
 
 /// Reasons 56 to 63, which op 7 doesn't count.
-pub const NOTES: u64 = 0xff << 56;
+const NOTES: u64 = 0xff << 56;
 
 /// Vigna's splitmix64: small, and good enough to draw sessions with.
 pub struct Chance {
