@@ -1,5 +1,6 @@
 //! The held tree and its sets: load, replacement and rounds.
 
+use std::mem;
 use std::ops::Range;
 
 use crate::circles::{Circle, Circles};
@@ -7,7 +8,7 @@ use crate::frames::{Done, Node, Round};
 use crate::ranks::Ranks;
 use crate::refusal::Refusal;
 use crate::rows::{Place, Row};
-use crate::sets::{Formula, Set};
+use crate::sets::{Formula, Op, Set};
 use crate::table::Table;
 use crate::tree::{judge, NODES};
 use crate::wiring::Wiring;
@@ -40,6 +41,8 @@ struct Update {
 
 pub struct Engine {
     table: Table,
+    /// Whether the table has a waiver: without one no tree is searched for them.
+    waives: bool,
     nodes: Vec<Node>,
     wiring: Wiring,
     circles: Circles,
@@ -58,6 +61,7 @@ pub struct Engine {
 impl Engine {
     pub fn new(table: Table) -> Self {
         Engine {
+            waives: table.waives(),
             table,
             nodes: Vec::new(),
             wiring: Wiring::new(),
@@ -76,8 +80,7 @@ impl Engine {
             return Err(Refusal::TooManyNodes);
         }
         judge(&self.table, 0, &part.nodes)?;
-        self.nodes.clone_from(&part.nodes);
-        self.rewire();
+        self.hold(part.nodes.clone())?;
         self.sets.clear(self.wiring.places(), 0);
         self.open(0..self.wiring.places());
         Ok(())
@@ -95,8 +98,9 @@ impl Engine {
         judge(&self.table, self.table.production_of(&root).left, &part.nodes)?;
         let old = self.below(point..end);
         let places = self.wiring.places();
-        self.nodes.splice(point..end, part.nodes.iter().copied());
-        self.rewire();
+        let mut nodes = self.nodes.clone();
+        nodes.splice(point..end, part.nodes.iter().copied());
+        self.hold(nodes)?;
         let new = self.below(point..point + part.count);
         self.shift(old.end..places, new.end);
         self.sets.part_mut(new.start, new.end).fill(0);
@@ -141,11 +145,33 @@ impl Engine {
         places.map(|place| (self.wiring.instances()[place], self.sets[place]))
     }
 
+    /// Takes a sound tree for the held one, unless a waiver stands inside a circle of it. The tree
+    /// must be wired to tell; a refused one makes room again for the one that was held.
+    fn hold(&mut self, nodes: Vec<Node>) -> Result<(), Refusal> {
+        let held = mem::replace(&mut self.nodes, nodes);
+        self.rewire();
+        if self.waives && self.waives_inside() {
+            self.nodes = held;
+            self.rewire();
+            return Err(Refusal::WaiverInCircle);
+        }
+        Ok(())
+    }
+
     fn rewire(&mut self) {
         self.wiring.rebuild(&self.table, &self.nodes);
         let (formulas, places) = (self.wiring.formulas(), self.wiring.places());
         self.circles.rebuild(formulas, places);
         self.ranks.rebuild(formulas, &self.circles, places);
+    }
+
+    /// Whether some waiver and its b lie in one circle: that couldn't climb, since what it finds
+    /// it would also lose.
+    fn waives_inside(&self) -> bool {
+        (0..self.wiring.places()).any(|place| {
+            let Formula { op, b, .. } = self.wiring.formulas()[place];
+            op == Op::Except && self.circles.of(b) == self.circles.of(place)
+        })
     }
 
     /// The places of all nodes of a subtree but its root.

@@ -17,6 +17,7 @@ pub enum Op {
     Meet,
     IfAll,
     IfCount,
+    Except,
 }
 
 impl Op {
@@ -25,7 +26,7 @@ impl Op {
     }
 
     pub fn uses_b(self) -> bool {
-        matches!(self, Op::Join | Op::Meet | Op::IfAll | Op::IfCount)
+        matches!(self, Op::Join | Op::Meet | Op::IfAll | Op::IfCount | Op::Except)
     }
 }
 
@@ -52,6 +53,7 @@ impl<A: Copy> Formula<A> {
             Op::Meet => set(a) & set(b),
             Op::IfAll => when(set(a) & c == c, set(b)),
             Op::IfCount => when(count(set(a)) >= c, set(b)),
+            Op::Except => set(a) & !set(b),
         }
     }
 }
@@ -94,5 +96,7 @@ mod tests {
         assert_eq!(value(Op::IfCount, 1 | 1 << 55, b, 2), b);
         assert_eq!(value(Op::Keep, 7, 0, 5), 5);
         assert_eq!(value(Op::Add, 1, 0, 2), 3);
+        assert_eq!(value(Op::Except, 7, 5, 0), 2);
+        assert_eq!(value(Op::Except, 7, 8, 0), 7);
     }
 }

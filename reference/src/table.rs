@@ -94,6 +94,12 @@ impl Table {
         &self.productions[usize::from(node.production)]
     }
 
+    /// Whether some equation waives.
+    pub fn waives(&self) -> bool {
+        let mut equations = self.productions.iter().flat_map(|production| &production.equations);
+        equations.any(|equation| equation.formula.op == Op::Except)
+    }
+
     /// The symbol on the left of a production.
     pub fn symbol_of(&self, production: &Production) -> Symbol {
         self.symbols[usize::from(production.left)]
@@ -200,6 +206,7 @@ fn operation(fields: EquationFields) -> Option<Op> {
         5 => Op::Meet,
         6 => Op::IfAll,
         7 if c <= COUNTED.into() => Op::IfCount,
+        9 => Op::Except,
         _ => return None,
     };
     let zero = Occurrence { position: 0, index: 0 };

@@ -1,6 +1,7 @@
-// Makes every public call of the engine on two days, session A's and one of a tree of 512 nodes, because what is only proved has never been run. Each line says what a call
-// answers and, behind a bar, the record that it leaves; a line of memory is a mark of all that is lent, which no refused call may change. `stdout` has the right lines, from
-// the paper, the recorded sessions and a program that isn't this one.
+// Makes every public call of the engine on four days, because what is only proved has never been run: session A's, one of a tree of 512 nodes, and two with a waiver, which
+// stands outside every circle until the leaf is replaced, and inside one from the start. Each line says what a call answers and, behind a bar, the record that it leaves; a
+// line of memory is a mark of all that is lent, which no refused call may change. `stdout` has the right lines, from the paper, the recorded sessions and a program that
+// isn't this one.
 mod act;
 mod lending;
 mod mark;
@@ -25,7 +26,7 @@ fn call_day(table: [u64; 2657], nodes: &[u8], owns: &[u64], count: usize, point:
     perform(table, tape, nodes, owns, count, point);
 }
 
-// A day's text has its table and its tree, of at most 512 nodes; what stands behind them is no production of either table. The leaf at the point is replaced.
+// A day's text has its table and its tree, of at most 512 nodes; what stands behind them is no production of their tables. The leaf at the point is replaced.
 fn tell_text(text: &[u8], point: usize) {
     let mut table = [0u64; 2657];
     let mut nodes = [3u8; ALL];
@@ -58,4 +59,6 @@ fn main() {
     say(b"| held open nodes point part rank round circles evaluations\n");
     tell_day(b"session-a.txt", 1);
     tell_day(b"full-512.txt", 511);
+    tell_day(b"waiver-outside.txt", 1);
+    tell_day(b"waiver-inside.txt", 1);
 }

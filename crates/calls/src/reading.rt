@@ -45,7 +45,7 @@ fn read_all(
     mark
 }
 
-// The five sets of session A, which both days declare; one that only the tree of 512 nodes has, one that none has, and one past the last; and then all.
+// The five sets of session A, which all days declare; one that only the tree of 512 nodes has, one that none has, and one past the last; and then all.
 pub fn read_day(
     table: &[u64; 2657],
     record: Record,

@@ -11,7 +11,7 @@ pub fn uses_a(op: u64) -> bool
     if op < 2 {
         return false;
     }
-    op <= 8
+    op <= 9
 }
 
 pub fn uses_b(op: u64) -> bool
@@ -20,7 +20,10 @@ pub fn uses_b(op: u64) -> bool
     if op < 4 {
         return false;
     }
-    op <= 7
+    if op <= 7 {
+        return true;
+    }
+    op == 9
 }
 
 pub fn uses_c(op: u64) -> bool
@@ -46,12 +49,12 @@ fn is_stray(used: bool, field: u64) -> bool
     0 < field
 }
 
-// 4: op above 8, an unused field not zero, or op 7 with c above 56.
+// 4: op above 9, an unused field not zero, or op 7 with c above 56.
 pub fn is_misformed(head: u64, c: u64) -> bool
     ensures { λ r. ⌜ r ≡ misformed head c ⌝ }
 {
     let op = head / 4294967296;
-    if 8 < op {
+    if 9 < op {
         return true;
     }
     if is_stray(uses_a(op), head / 65536 % 65536) {

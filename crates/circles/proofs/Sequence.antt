@@ -177,7 +177,7 @@ module _ (G : Graph) (C : Closed G) (few : G .size ≤ 65535) where
       greedy-turn (turning k tk) (λ r rl P. greedy k (r ∷ tk) (omega (arith, h, held-more G L tk r (P .untaken), some-long (of-circle G C r r rl (P .own)))))
 
 -- no second order is greedy
-greedy-one : {G : Graph} {tk ls ms : List ℕ} → Greedy G tk ls → Greedy G tk ms → ls ≡ ms
+pub greedy-one : {G : Graph} {tk ls ms : List ℕ} → Greedy G tk ls → Greedy G tk ms → ls ≡ ms
 greedy-one (stop f) (stop g) = refl
 greedy-one (stop f) (take m c h g) = absurd (f m c)
 greedy-one (take l c h f) (stop g) = absurd (g l c)

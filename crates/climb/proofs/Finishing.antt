@@ -1,49 +1,28 @@
--- What an update leaves is least; it works on the due circles alone, never more than a load, and within the limits. Assumes nothing.
+-- What an update leaves is least by rank; it works on the due circles alone, never more than a load, and within the limits. Assumes nothing.
 use mathlib.Core.Path.{_≡_, refl, sym, _∙_}
 use mathlib.Core.Bool.{Bool, true, false, cond, true≢false}
 use mathlib.Core.Logic.{_⊎_, inl, inr, ⊎-elim}
 use mathlib.Core.List.{List, [], _∷_}
-use Prim.Native.Nat.{ℕ, zero, suc, _+_, _-_, _*_, _≤_, _<_, zero-le}
-use native.Mathlib.Nat.{eq-or-lt-of-le, not-suc-le-zero, le-refl, le-trans, mul-le-mul-left}
+use Prim.Native.Nat.{ℕ, suc, _+_, _-_, _*_, _≤_, _<_, zero-le}
+use native.Mathlib.Nat.{le-refl, le-trans, mul-le-mul-left}
 use native.Mathlib.Omega.{arith}
-use lib.ListN.{length}
-use Rattle.circles.specs.Graph.{_∈_}
-use Rattle.circles.specs.Ranked.{member, upFrom}
-use Rattle.climb.specs.System.{Assignment, System, Lawful}
-use Rattle.climb.specs.Climb.{stage}
+use lib.ListN.{length, List·getD-eq-default}
+use Rattle.circles.specs.Ranked.{member}
+use Rattle.climb.specs.System.{Assignment, System}
+use Rattle.climb.specs.Climb.{stage, roundsOf}
 use Rattle.climb.specs.Inside.{Small, Agree}
-use Rattle.climb.specs.Ordered.{And, Next}
-use Rattle.climb.specs.Circuit.{sumTo, circleAt, dueOf, afterOf, workedOf, roundsAt, circlesTo, roundsTo, evaluationsTo, Ranked, Kept}
-use Rattle.climb.specs.CircuitLaws.{LawfulCircles, FinalLeast, AllFinal, LoadKept, ReplacedKept, LoadMost, Limits, AllLimits}
-use Rattle.climb.proofs.Lists.{either, member-in, in-upFrom}
-use Rattle.climb.proofs.Systems.{gains-inside, lawful-inside, least-unique}
+use Rattle.climb.specs.Circuit.{sumTo, circleAt, dueOf, afterOf, workedOf, roundsAt, circlesTo, roundsTo, evaluationsTo, Ranked, Few, LawfulCircles, Kept}
+use Rattle.climb.specs.ByRank.{LeastGiven, Before}
+use Rattle.climb.specs.CircuitLaws.{FinalLeast, AllFinal, LoadKept, ReplacedKept, LoadMost, Limits, AllLimits}
+use Rattle.climb.proofs.Lists.{either, le-or-lt}
 use Rattle.climb.proofs.Stages.{stage-out}
-use Rattle.climb.proofs.Rounds.{climb-closed, agree-alike}
-use Rattle.climb.proofs.Solving.{Solved, solved-none, solved-next, solved-least, solved-as, solved-cong}
+use Rattle.climb.proofs.Rounds.{climbs, agree-alike}
+use Rattle.climb.proofs.Solving.{given-cong, given-closed, outside-before, next, by-rank-same}
 use Rattle.climb.proofs.Restriction.{renamed}
 use Rattle.climb.proofs.Sums.{sum-le, sum-mono, sum-times, sum-one, cond-le}
 use Rattle.climb.proofs.Working.{due-means, due-agree, after-worked, after-left, after-later, untouched, climbs-at, adds}
 
-pub lawful-circles : (S : System) → Lawful S → (R : List (List ℕ)) → LawfulCircles S R
-lawful-circles S L R i = lawful-inside S L (member (circleAt R i))
-
--- in a circle of rank below n
-abbrev pub Below : List (List ℕ) → ℕ → ℕ → Type 0
-Below R n x = (j : ℕ) × (j < n) × (member (circleAt R j) x ≡ true)
-
 module _ (S : System) (R : List (List ℕ)) (r : Ranked S R) where
-  -- what a circle reads outside is in circles below
-  reads-below : (n x : ℕ) → member (circleAt R n) x ≡ true → (y : ℕ) → y ∈ S .args x → And (Below R n) (member (circleAt R n)) y
-  reads-below n x m y a =
-      let f = r .reads n x m y a in
-      ⊎-elim (λ (e : f .0 ≡ n). inr (rw e at (f .2))) (λ l. inl (f .0, l, f .2)) (eq-or-lt-of-le (f .1))
-
-  pub outside-below : (n x : ℕ) → member (circleAt R n) x ≡ true → (y : ℕ) → y ∈ S .args x → member (circleAt R n) y ≡ false → Below R n y
-  outside-below n x m y a o = ⊎-elim (λ p. p) (λ p. absurd (true≢false (sym p ∙ o))) (reads-below n x m y a)
-
-  next : (n : ℕ) → Next S (Below R n) (member (circleAt R n))
-  next n = record { apart = λ x p. r .apart (p .0) n x (p .1) (p .2); reads = reads-below n }
-
   later : (n x : ℕ) → member (circleAt R n) x ≡ true → (k : ℕ) → k < n → member (circleAt R k) x ≡ false
   later n x m k l = ⊎-elim (λ (h : member (circleAt R k) x ≡ true). absurd (true≢false (sym m ∙ r .apart k n x l h))) (λ h. h) (either (member (circleAt R k) x))
 
@@ -51,46 +30,51 @@ module _ (S : System) (R : List (List ℕ)) (r : Ranked S R) where
     abbrev after : ℕ → Assignment
     after = afterOf S R sown b
 
-    -- values in circles below n are final at n
-    pub below-final : (n m x : ℕ) → Below R n x → afterOf S R sown b (n + m) x ≡ afterOf S R sown b n x
-    below-final n m x p = after-later S R sown b n m x (λ k l. r .apart (p .0) k x (omega (arith, p .1)) (p .2))
+    -- values in circles before n are final at n
+    pub before-final : (n : ℕ) → n ≤ length R → (x : ℕ) → Before R n x → afterOf S R sown b (length R) x ≡ afterOf S R sown b n x
+    before-final n l x p =
+        let e : n + (length R - n) ≡ length R = omega arith in
+        rw e at (after-later S R sown b n (length R - n) x (λ k h. r .apart (p .0) k x (omega (arith, p .1)) (p .2)))
 
     pub agree-final : (n : ℕ) → n ≤ length R → Agree S (member (circleAt R n)) (afterOf S R sown b (length R)) (afterOf S R sown b n)
-    agree-final n l x m y a o =
-        let e : n + (length R - n) ≡ length R = omega arith in
-        rw e at (below-final n (length R - n) y (outside-below n x m y a o))
+    agree-final n l x m y a o = before-final n l y (outside-before S R r n x m y a o)
 
-    module _ (L : Lawful S) (small : Small b) (k : Kept S R sown b) where
-      pub solved : (n : ℕ) → Solved S (Below R n) (afterOf S R sown b n)
-      unfolding afterOf workedOf roundsAt
-      solved zero = solved-as S (λ x. ⊥) (Below R 0) b (λ x p. absurd p) (λ x p. not-suc-le-zero (p .1)) (solved-none S b)
-      solved (suc n) = solved-as S (And (Below R n) C) (Below R (suc n)) (after (suc n)) to from (⊎-elim (worked (solved n)) (left (solved n)) (either (workedOf S R sown b n)))
+    module _ (L : LawfulCircles S R) (small : Small b) (k : Kept S R sown b) where
+      -- a circle has its least sets when it is worked, or left as it is
+      at-rank : (n : ℕ) → LeastGiven S (Before R n) (member (circleAt R n)) (afterOf S R sown b (suc n))
+      unfolding workedOf roundsAt
+      at-rank n = ⊎-elim worked left (either (workedOf S R sown b n))
         where
           C : ℕ → Bool
           C = member (circleAt R n)
 
-          to : (x : ℕ) → And (Below R n) C x → Below R (suc n) x
-          to x (inl p) = (p .0, omega (arith, p .1), p .2)
-          to x (inr h) = (n, le-refl (suc n), h)
+          worked : workedOf S R sown b n ≡ true → LeastGiven S (Before R n) C (after (suc n))
+          worked h = rw (after-worked S R sown b n h)
+              (given-closed S (Before R n) C (L n .gaining) (next S R r n) (after n) (roundsAt S R sown b n) (climbs-at S R sown b L small n .closed))
 
-          from : (x : ℕ) → Below R (suc n) x → And (Below R n) C x
-          from x p = ⊎-elim (λ (e : suc (p .0) ≡ suc n). let q : p .0 ≡ n = omega arith in inr (rw q at (p .2))) (λ l. inl (p .0, omega arith, p .2)) (eq-or-lt-of-le (p .1))
-
-          worked : Solved S (Below R n) (after n) → workedOf S R sown b n ≡ true → Solved S (And (Below R n) C) (after (suc n))
-          worked s h = rw (after-worked S R sown b n h)
-              (solved-next S L (Below R n) (after n) C (next n) s (roundsAt S R sown b n) (climbs-at S R sown b (lawful-circles S L R) small n .closed))
-
-          left : Solved S (Below R n) (after n) → workedOf S R sown b n ≡ false → Solved S (And (Below R n) C) (after (suc n))
-          left s h =
+          left : workedOf S R sown b n ≡ false → LeastGiven S (Before R n) C (after (suc n))
+          left h =
               let d = due-means S sown b (circleAt R n) (after n) in
               let c = k .kept n (after n) (d .unsown h) (d .agree h) in
-              rw (after-left S R sown b n h) (solved-cong S L (And (Below R n) C) (stage S C (after n) (c .0)) (after n)
-              (λ x. ⊎-elim (λ (m : C x ≡ true). c .2 x m ∙ sym (untouched S R sown b n x (later n x m))) (λ (o : C x ≡ false). stage-out S C (after n) (c .0) x o) (either (C x)))
-              (solved-next S L (Below R n) (after n) C (next n) s (c .0) (c .1)))
+              rw (after-left S R sown b n h) (given-cong S (Before R n) C (L n .gaining) (next S R r n) (stage S C (after n) (c .0)) (after n)
+              (λ x a. ⊎-elim (λ p. stage-out S C (after n) (c .0) x (next S R r n .apart x p)) (λ m. c .2 x m ∙ sym (untouched S R sown b n x (later n x m))) a)
+              (given-closed S (Before R n) C (L n .gaining) (next S R r n) (after n) (c .0) (c .1)))
+
+      -- and keeps them to the end
+      at-end : (n : ℕ) → n < length R → LeastGiven S (Before R n) (member (circleAt R n)) (afterOf S R sown b (length R))
+      at-end n l = given-cong S (Before R n) (member (circleAt R n)) (L n .gaining) (next S R r n) (after (suc n)) (after (length R))
+          (λ x a. sym (before-final (suc n) l x (⊎-elim (λ p. (p .0, omega (arith, p .1), p .2)) (λ h. (n, le-refl (suc n), h)) a))) (at-rank n)
+
+-- past the last rank there is no circle
+none-past : (S : System) (R : List (List ℕ)) (P : ℕ → Type 0) (n : ℕ) (v : Assignment) → length R ≤ n → LeastGiven S P (member (circleAt R n)) v
+none-past S R P n v l =
+    let e : circleAt R n ≡ [] = List·getD-eq-default R [] l in
+    rw e (record { consistent = λ x h. absurd (true≢false (sym h)); least = λ w a c x h. absurd (true≢false (sym h)) })
 
 pub final-least : FinalLeast
-final-least S L R r sown b small k =
-    solved-least S (Below R (length R)) (afterOf S R sown b (length R)) (λ x p. r .declared (p .0) x (p .2)) (λ x d. r .covers x d) (solved S R r sown b L small k (length R))
+final-least S R L r sown b small k = record {
+  circle = λ i. ⊎-elim (λ l. none-past S R (Before R i) i (afterOf S R sown b (length R)) l) (λ l. at-end S R r sown b L small k i l) (le-or-lt (length R) i);
+}
 
 pub all-final : AllFinal
 unfolding workedOf roundsAt
@@ -108,14 +92,13 @@ load-kept S R b = record {
 }
 
 pub replaced-kept : ReplacedKept
-replaced-kept S₀ S L₀ R sown b v₀ φ l s t = record {
+replaced-kept S₀ S R₀ R sown b v₀ φ q t = record {
   kept = λ i u n a.
-      let q = t i n in
-      let k = 64 * length (upFrom 0 (S₀ .size)) in
-      let c = climb-closed S₀ (q .old) v₀ (lawful-inside S₀ L₀ (q .old)) (upFrom 0 (S₀ .size))
-      (λ z h. member-in (upFrom 0 (S₀ .size)) z (in-upFrom (S₀ .size) 0 z zero-le (omega (arith, L₀ .bound z (q .declared z h))))) s in
-      let w = renamed S₀ S L₀ (q .old) (member (circleAt R i)) φ (q .same) v₀ u (λ x m y j f. a x m y j f ∙ q .outside x m y j f) l (q .declared) k c in
-      (k, w .0, λ x m. w .1 x m ∙ sym (q .value x m));
+      let o = t i n in
+      let k = roundsOf S₀ (o .old) v₀ in
+      let w = renamed S₀ S R₀ (member (o .old)) (member (circleAt R i)) φ (o .lawful .gaining) (o .same) v₀ u (λ x m y j f. a x m y j f ∙ o .outside x m y j f) q (o .declared)
+      k (climbs S₀ (o .old) v₀ (o .lawful) (q .small) .closed) in
+      (k, w .0, λ x m. w .1 x m ∙ sym (o .value x m));
 }
 
 all-due : (S : System) (b v : Assignment) (C : List ℕ) → (dueOf S (λ x. true) b v C ≡ true) ⊎ (length C ≡ 0)
@@ -131,23 +114,23 @@ no-more true false n m m′ e (inr h) = rw h (omega arith)
 
 pub load-most : LoadMost
 unfolding workedOf
-load-most S L R r sown b b′ small small′ k =
+load-most S R L r sown b b′ small small′ k =
     sum-le _ _ (length R) (λ j l. no-more (workedOf S R sown b j) (workedOf S R (λ x. true) b′ j) (length (circleAt R j))
     (roundsAt S R sown b j) (roundsAt S R (λ x. true) b′ j) (same-rounds j (omega arith)) (all-due S b′ (afterOf S R (λ x. true) b′ j) (circleAt R j)))
   where
     same-final : (x : ℕ) → S .declared x ≡ true → afterOf S R sown b (length R) x ≡ afterOf S R (λ x. true) b′ (length R) x
-    same-final = least-unique S (afterOf S R sown b (length R)) (afterOf S R (λ x. true) b′ (length R))
-        (final-least S L R r sown b small k) (final-least S L R r (λ x. true) b′ small′ (load-kept S R b′))
+    same-final = by-rank-same S R r (afterOf S R sown b (length R)) (afterOf S R (λ x. true) b′ (length R))
+        (final-least S R L r sown b small k) (final-least S R L r (λ x. true) b′ small′ (load-kept S R b′))
 
     same-rounds : (j : ℕ) → j ≤ length R → roundsAt S R sown b j ≡ roundsAt S R (λ x. true) b′ j
-    same-rounds j l = all-final S R (lawful-circles S L R) r sown b j l .rounds
-        ∙ agree-alike S (circleAt R j) (gains-inside S (L .gaining) (member (circleAt R j))) (afterOf S R sown b (length R)) (afterOf S R (λ x. true) b′ (length R))
-        (λ x m y a o. same-final y (L .closed x (r .declared j x m) y a)) .rounds
-        ∙ sym (all-final S R (lawful-circles S L R) r (λ x. true) b′ j l .rounds)
+    same-rounds j l = all-final S R L r sown b j l .rounds
+        ∙ agree-alike S (circleAt R j) (L j .gaining) (afterOf S R sown b (length R)) (afterOf S R (λ x. true) b′ (length R))
+        (λ x m y a o. let f = r .reads j x m y a in same-final y (r .declared (f .0) y (f .2))) .rounds
+        ∙ sym (all-final S R L r (λ x. true) b′ j l .rounds)
 
 -- ---- the limits
 
-module _ (S : System) (R : List (List ℕ)) (L : LawfulCircles S R) (r : Ranked S R) (sown : ℕ → Bool) (b : Assignment) (small : Small b) where
+module _ (S : System) (R : List (List ℕ)) (L : LawfulCircles S R) (r : Few R) (sown : ℕ → Bool) (b : Assignment) (small : Small b) where
   size-le : (j : ℕ) → j < length R → length (circleAt R j) ≤ 4096
   unfolding sumTo
   size-le j l =

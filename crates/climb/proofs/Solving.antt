@@ -1,134 +1,189 @@
--- Circle by circle is least. Assumes nothing.
-use mathlib.Core.Path.{_≡_, sym, _∙_}
-use mathlib.Core.Bool.{Bool, true, true≢false}
-use mathlib.Core.Logic.{inl, inr, ⊎-elim}
+-- Least by rank: a climb leads there, there is no second, and of the orders in which arguments come first any will do. Assumes nothing.
+use mathlib.Core.Path.{_≡_, refl, sym, _∙_}
+use mathlib.Core.Bool.{Bool, true, false, true≢false}
+use mathlib.Core.Logic.{_⊎_, inl, inr, ⊎-elim}
 use mathlib.Core.List.{List, [], _∷_}
-use Prim.Native.Nat.{ℕ, zero-le}
-use native.Mathlib.Nat.{zero-add}
-use lib.Dec.{lit<}
+use Prim.Native.Nat.{ℕ, zero, suc, _≤_, _<_}
+use native.Mathlib.Nat.{eq-or-lt-of-le, le-refl}
+use native.Mathlib.Omega.{arith}
+use lib.ListN.{length}
 use Rattle.sets.specs.Members.{_⊑_}
-use Rattle.sets.proofs.Order.{sub-trans, sub-of-eq}
+use Rattle.sets.proofs.Order.{sub-trans, sub-of-eq, sub-antisym}
 use Rattle.circles.specs.Graph.{_∈_}
-use Rattle.circles.specs.Ranked.{member, keep, upFrom}
-use Rattle.climb.specs.System.{Assignment, System, Lawful, Least}
-use Rattle.climb.specs.Climb.{stage, Closed, roundsOf}
-use Rattle.climb.specs.Inside.{Small}
-use Rattle.climb.specs.Ordered.{climbed, climbedAll, And, Next, Ordered, Covered, InOrder, InOrderLeast, bottom, ThereIsLeast, LeastClosed}
-use Rattle.climb.proofs.Lists.{keep-is, keep-in, in-upFrom}
-use Rattle.climb.proofs.Systems.{local, lawful-inside}
-use Rattle.climb.proofs.Stages.{stage-out, stage-small, stage-below}
+use Rattle.circles.specs.Ranked.{member}
+use Rattle.climb.specs.System.{Assignment, System}
+use Rattle.climb.specs.Climb.{patch, stage, Closed, roundsOf}
+use Rattle.climb.specs.Inside.{GainingIn, Small, Agree, ClosedOn}
+use Rattle.climb.specs.Ordered.{climbed, climbedAll, And, Next, Ordered, Covered}
+use Rattle.climb.specs.Circuit.{circleAt, Ranked, LawfulCircles}
+use Rattle.climb.specs.ByRank.{LeastGiven, Before, LeastByRank, ByRankUnique, InOrderRanked, InOrderByRank, AnyOrder}
+use Rattle.climb.proofs.Lists.{either}
+use Rattle.climb.proofs.Systems.{local-in}
+use Rattle.climb.proofs.Stages.{patch-in, patch-out, stage-out, stage-small, stage-within}
 use Rattle.climb.proofs.Rounds.{climbs}
 
--- v solves the equations of the instances of P, which read no others, and is below all that is closed under them
-pub record Solved (S : System) (P : ℕ → Type 0) (v : Assignment) : Type 0 where
-  pub reads : (x : ℕ) → P x → (y : ℕ) → y ∈ S .args x → P y
-  pub holds : (x : ℕ) → P x → v x ≡ S .eval v x
-  pub least : (w : Assignment) → ((x : ℕ) → P x → S .eval w x ⊑ w x) → (x : ℕ) → P x → v x ⊑ w x
+-- ---- one circle
 
-pub solved-none : (S : System) (v : Assignment) → Solved S (λ x. ⊥) v
-solved-none S v = record { reads = λ x p. absurd p; holds = λ x p. absurd p; least = λ w h x p. absurd p }
+-- more may be given
+given-more : {S : System} {P Q : ℕ → Type 0} {C : ℕ → Bool} {v : Assignment} → ((x : ℕ) → P x → Q x) → LeastGiven S P C v → LeastGiven S Q C v
+given-more to l = record { consistent = l .consistent; least = λ w a c x h. l .least w (λ y p. a y (to y p)) c x h }
 
-module _ (S : System) (L : Lawful S) (P : ℕ → Type 0) (v : Assignment) (C : ℕ → Bool) where
-  module _ (n : Next S P C) (s : Solved S P v) (k : ℕ) (c : Closed S C v k) where
-    abbrev u : Assignment
-    u = stage S C v k
-
-    kept : (x : ℕ) → P x → u x ≡ v x
-    kept x p = stage-out S C v k x (n .apart x p)
-
-    reads′ : (x : ℕ) → And P C x → (y : ℕ) → y ∈ S .args x → And P C y
-    reads′ x (inl p) y m = inl (s .reads x p y m)
-    reads′ x (inr h) y m = n .reads x h y m
-
-    holds′ : (x : ℕ) → And P C x → u x ≡ S .eval u x
-    holds′ x (inl p) = kept x p ∙ s .holds x p ∙ local S (L .gaining) v u x (λ y m. sym (kept y (s .reads x p y m)))
-    holds′ x (inr h) = sym (c .still x h)
-
-    least′ : (w : Assignment) → ((x : ℕ) → And P C x → S .eval w x ⊑ w x) → (x : ℕ) → And P C x → u x ⊑ w x
-    least′ w pre x (inl p) = sub-trans (sub-of-eq (kept x p)) (s .least w (λ x p. pre x (inl p)) x p)
-    least′ w pre x (inr h) =
-        stage-below S C v (L .gaining) k w
-        (λ x h y m o. ⊎-elim (λ p. s .least w (λ x p. pre x (inl p)) y p) (λ i. absurd (true≢false (sym i ∙ o))) (n .reads x h y m))
-        (λ x h. pre x (inr h)) x h
-
-    -- one more circle
-    pub solved-next : Solved S (And P C) (stage S C v k)
-    solved-next = record { reads = reads′; holds = holds′; least = least′ }
-
-pub solved-least : (S : System) (P : ℕ → Type 0) (v : Assignment)
-    → ((x : ℕ) → P x → S .declared x ≡ true) → ((x : ℕ) → S .declared x ≡ true → P x) → Solved S P v → Least S v
-solved-least S P v to from s = record {
-  consistent = record { holds = λ x d. s .holds x (from x d) };
-  least = λ w h x d. s .least w (λ y p. sub-of-eq (sym (h .holds y (to y p)))) x (from x d);
-}
-
--- the same instances, named otherwise
-pub solved-as : (S : System) (P Q : ℕ → Type 0) (v : Assignment)
-    → ((x : ℕ) → P x → Q x) → ((x : ℕ) → Q x → P x) → Solved S P v → Solved S Q v
-solved-as S P Q v to from s = record {
-  reads = λ x q y m. to y (s .reads x (from x q) y m);
-  holds = λ x q. s .holds x (from x q);
-  least = λ w h x q. s .least w (λ y p. h y (to y p)) x (from x q);
-}
-
--- the same values
-pub solved-cong : (S : System) (L : Lawful S) (P : ℕ → Type 0) (u v : Assignment) → ((x : ℕ) → u x ≡ v x) → Solved S P u → Solved S P v
-solved-cong S L P u v e s = record {
-  reads = s .reads;
-  holds = λ x p. sym (e x) ∙ s .holds x p ∙ local S (L .gaining) u v x (λ y m. e y);
-  least = λ w h x p. sub-trans (sub-of-eq (sym (e x))) (s .least w h x p);
-}
-
--- ---- a list of circles
-
-pub climbedAll-solved : (S : System) (L : Lawful S) (R : List (List ℕ)) (P : ℕ → Type 0) (v : Assignment) → Small v
-    → Ordered S R P → Solved S P v → Solved S (Covered R P) (climbedAll S R v)
-unfolding climbedAll climbed
-climbedAll-solved S L [] P v s o h = h
-climbedAll-solved S L (C ∷ R) P v s o h =
-    climbedAll-solved S L R (And P (member C)) (climbed S C v) (λ x. stage-small S (member C) v (lawful-inside S L (member C) .small) s (roundsOf S C v) x) (o .1)
-    (solved-next S L P v (member C) (o .0) h (roundsOf S C v) (climbs S C v (lawful-inside S L (member C)) s .closed))
-
-pub in-order-least : InOrderLeast
-in-order-least S L R c v s =
-    solved-least S (Covered R (λ x. ⊥)) (climbedAll S R v) (c .declared) (c .covers) (climbedAll-solved S L R (λ x. ⊥) v s (c .ordered) (solved-none S v))
-
--- ---- all instances as one circle
-
-module _ (S : System) (L : Lawful S) where
-  all : List ℕ
-  all = keep (S .declared) (upFrom 0 (S .size))
-
-  in-all : (x : ℕ) → S .declared x ≡ true → member all x ≡ true
-  unfolding all
-  in-all x d = keep-in (S .declared) (upFrom 0 (S .size)) x (in-upFrom (S .size) 0 x zero-le (rw zero-add (L .bound x d))) d
-
-  all-in : (x : ℕ) → member all x ≡ true → S .declared x ≡ true
-  unfolding all
-  all-in x h = keep-is (S .declared) (upFrom 0 (S .size)) x h
-
-  order-all : InOrder S (all ∷ [])
-  order-all = record {
-    ordered = (record { apart = λ x p. absurd p; reads = λ x h y m. inr (in-all y (L .closed x (all-in x h) y m)) }, tt);
-    declared = λ x p. ⊎-elim (λ q. absurd q) (λ h. all-in x h) p;
-    covers = λ x d. inr (in-all x d);
+module _ (S : System) (P : ℕ → Type 0) (C : ℕ → Bool) (g : GainingIn S C) (n : Next S P C) where
+  -- the same values there
+  pub given-cong : (u v : Assignment) → ((x : ℕ) → And P C x → u x ≡ v x) → LeastGiven S P C u → LeastGiven S P C v
+  given-cong u v e l = record {
+    consistent = λ x h. sym (e x (inr h)) ∙ l .consistent x h ∙ local-in S C g u v x h (λ y m. e y (n .reads x h y m));
+    least = λ w a c x h. sub-trans (sub-of-eq (sym (e x (inr h)))) (l .least w (λ y p. a y p ∙ sym (e y (inl p))) c x h);
   }
 
-  pub bottom-least : Least S (bottom S)
-  unfolding bottom all
-  bottom-least = in-order-least S L (all ∷ []) order-all (λ x. 0) (λ x. lit< tt)
+  -- what a climb ends with
+  pub given-closed : (v : Assignment) (k : ℕ) → Closed S C v k → LeastGiven S P C (stage S C v k)
+  given-closed v k c = record {
+    consistent = λ x h. sym (c .still x h);
+    least = λ w a e. stage-within S C v g w
+        (λ x h y m o. ⊎-elim (λ p. sym (stage-out S C v k y o) ∙ sym (a y p)) (λ i. absurd (true≢false (sym i ∙ o))) (n .reads x h y m))
+        (λ x h. sub-of-eq (sym (e x h))) k;
+  }
 
-  bottom-solved : Solved S (Covered (all ∷ []) (λ x. ⊥)) (bottom S)
-  unfolding bottom all
-  bottom-solved = climbedAll-solved S L (all ∷ []) (λ x. ⊥) (λ x. 0) (λ x. lit< tt) (order-all .ordered) (solved-none S (λ x. 0))
+  -- it is below what is closed under the equations too, not only below what is consistent
+  pub given-below : (v : Assignment) → LeastGiven S P C v → (k : ℕ) → Closed S C v k → (w : Assignment) → Agree S C v w → ClosedOn S C w → (x : ℕ) → C x ≡ true → v x ⊑ w x
+  given-below v l k c w a p x h =
+      sub-trans (l .least (stage S C v k) (λ y q. stage-out S C v k y (n .apart y q)) (λ y i. sym (c .still y i)) x h) (stage-within S C v g w a p k x h)
 
-  least-closed′ : (v : Assignment) → Least S v → (w : Assignment)
-      → ((x : ℕ) → S .declared x ≡ true → S .eval w x ⊑ w x) → (x : ℕ) → S .declared x ≡ true → v x ⊑ w x
-  least-closed′ v l w pre x d = sub-trans (l .least (bottom S) (bottom-least .consistent) x d)
-      (bottom-solved .least w (λ y p. pre y (order-all .declared y p)) x (order-all .covers x d))
+-- ---- circles by rank
 
-pub there-is-least : ThereIsLeast
-there-is-least S L = bottom-least S L
+module _ (S : System) (R : List (List ℕ)) (r : Ranked S R) where
+  -- what a circle reads is in it or in circles before it
+  reads-before : (n x : ℕ) → member (circleAt R n) x ≡ true → (y : ℕ) → y ∈ S .args x → And (Before R n) (member (circleAt R n)) y
+  reads-before n x m y a =
+      let f = r .reads n x m y a in
+      ⊎-elim (λ (e : f .0 ≡ n). inr (rw e at (f .2))) (λ l. inl (f .0, l, f .2)) (eq-or-lt-of-le (f .1))
 
-pub least-closed : LeastClosed
-least-closed S L v l w pre x d = least-closed′ S L v l w pre x d
+  pub outside-before : (n x : ℕ) → member (circleAt R n) x ≡ true → (y : ℕ) → y ∈ S .args x → member (circleAt R n) y ≡ false → Before R n y
+  outside-before n x m y a o = ⊎-elim (λ p. p) (λ p. absurd (true≢false (sym p ∙ o))) (reads-before n x m y a)
+
+  pub next : (n : ℕ) → Next S (Before R n) (member (circleAt R n))
+  next n = record { apart = λ x p. r .apart (p .0) n x (p .1) (p .2); reads = reads-before n }
+
+  -- the same declared sets
+  pub by-rank-cong : LawfulCircles S R → (u v : Assignment) → ((x : ℕ) → S .declared x ≡ true → u x ≡ v x) → LeastByRank S R u → LeastByRank S R v
+  by-rank-cong L u v e l = record {
+    circle = λ i. given-cong S (Before R i) (member (circleAt R i)) (L i .gaining) (next i) u v
+        (λ x a. e x (⊎-elim (λ p. r .declared (p .0) x (p .2)) (λ h. r .declared i x h) a)) (l .circle i);
+  }
+
+  pub by-rank-consistent : (v : Assignment) → LeastByRank S R v → (x : ℕ) → S .declared x ≡ true → v x ≡ S .eval v x
+  by-rank-consistent v l x d = let c = r .covers x d in l .circle (c .0) .consistent x (c .2)
+
+pub by-rank-unique : ByRankUnique
+by-rank-unique S R v w a b i x h = same (suc i) i (le-refl (suc i)) x h
+  where
+    same : (n i : ℕ) → i < n → (x : ℕ) → member (circleAt R i) x ≡ true → v x ≡ w x
+    same zero i l x h = absurd (omega arith)
+    same (suc n) i l x h = sub-antisym
+        (a .circle i .least w (λ y p. sym (same n (p .0) (omega (arith, p .1)) y (p .2))) (b .circle i .consistent) x h)
+        (b .circle i .least v (λ y p. same n (p .0) (omega (arith, p .1)) y (p .2)) (a .circle i .consistent) x h)
+
+-- so every declared one where the circles cover them
+pub by-rank-same : (S : System) (R : List (List ℕ)) → Ranked S R → (v w : Assignment) → LeastByRank S R v → LeastByRank S R w
+    → (x : ℕ) → S .declared x ≡ true → v x ≡ w x
+by-rank-same S R r v w a b x d = let c = r .covers x d in by-rank-unique S R v w a b (c .0) x (c .2)
+
+-- ---- another order
+
+pub any-order : AnyOrder
+any-order S R R′ L r r′ same v l = record {
+  circle = λ i. record { consistent = λ x h. here i .consistent x (there i x h); least = λ w a c x h. below i w a c x (there i x h) };
+}
+  where
+    -- the same circle in R
+    C : ℕ → ℕ → Bool
+    C i = member (circleAt R (same i .0))
+
+    there : (i x : ℕ) → member (circleAt R′ i) x ≡ true → C i x ≡ true
+    there i x h = sym (same i .1 x) ∙ h
+
+    here : (i : ℕ) → LeastGiven S (Before R (same i .0)) (C i) v
+    here i = l .circle (same i .0)
+
+    below : (i : ℕ) (w : Assignment) → ((x : ℕ) → Before R′ i x → w x ≡ v x) → ((x : ℕ) → member (circleAt R′ i) x ≡ true → w x ≡ S .eval w x)
+        → (x : ℕ) → C i x ≡ true → v x ⊑ w x
+    below i w a c x h = sub-trans (here i .least u (λ y p. patch-out (C i) w v y (next S R r (same i .0) .apart y p)) consistent x h) (sub-of-eq (patch-in (C i) w v x h))
+      where
+        u : Assignment
+        u = patch (C i) w v
+
+        -- what is read outside the circle is before it in R′ too
+        agrees : (x : ℕ) → C i x ≡ true → (y : ℕ) → y ∈ S .args x → w y ≡ u y
+        agrees x h y m = ⊎-elim (λ (k : C i y ≡ true). sym (patch-in (C i) w v y k))
+            (λ (o : C i y ≡ false). a y (outside-before S R′ r′ i x (same i .1 x ∙ h) y m (same i .1 y ∙ o)) ∙ sym (patch-out (C i) w v y o)) (either (C i y))
+
+        consistent : (x : ℕ) → C i x ≡ true → u x ≡ S .eval u x
+        consistent x h = patch-in (C i) w v x h ∙ c x (same i .1 x ∙ h) ∙ local-in S (C i) (L (same i .0) .gaining) w u x h (agrees x h)
+
+-- ---- a list of circles, climbed one after the other
+
+module _ (S : System) where
+  climbed-kept : (R : List (List ℕ)) (P : ℕ → Type 0) (v : Assignment) → Ordered S R P → (x : ℕ) → P x → climbedAll S R v x ≡ v x
+  unfolding climbedAll climbed
+  climbed-kept [] P v o x p = refl
+  climbed-kept (C ∷ R) P v o x p = climbed-kept R (And P (member C)) (climbed S C v) (o .1) x (inl p) ∙ stage-out S (member C) v (roundsOf S C v) x (o .0 .apart x p)
+
+  climbed-least : (R : List (List ℕ)) (P : ℕ → Type 0) (v : Assignment) → LawfulCircles S R → Small v → Ordered S R P
+      → (i : ℕ) → LeastGiven S (λ x. P x ⊎ Before R i x) (member (circleAt R i)) (climbedAll S R v)
+  unfolding climbedAll climbed
+  climbed-least [] P v L s o i = record { consistent = λ x h. absurd (true≢false (sym h)); least = λ w a c x h. absurd (true≢false (sym h)) }
+  climbed-least (C ∷ R) P v L s o zero = given-more (λ x p. inl p)
+      (given-cong S P (member C) (L 0 .gaining) (o .0) (climbed S C v) (climbedAll S R (climbed S C v))
+      (λ x a. sym (climbed-kept R (And P (member C)) (climbed S C v) (o .1) x a))
+      (given-closed S P (member C) (L 0 .gaining) (o .0) v (roundsOf S C v) (climbs S C v (L 0) s .closed)))
+  climbed-least (C ∷ R) P v L s o (suc i) = given-more
+      (λ x a. ⊎-elim (λ b. ⊎-elim (λ p. inl p) (λ h. inr (0, omega arith, h)) b) (λ b. inr (suc (b .0), omega (arith, b .1), b .2)) a)
+      (climbed-least R (And P (member C)) (climbed S C v) (λ j. L (suc j)) (stage-small S (member C) v (L 0 .small) s (roundsOf S C v)) (o .1) i)
+
+  -- ---- in order is ranked
+
+  apart-from : (R : List (List ℕ)) (P : ℕ → Type 0) → Ordered S R P → (x : ℕ) → P x → (j : ℕ) → member (circleAt R j) x ≡ false
+  apart-from [] P o x p j = refl
+  apart-from (C ∷ R) P o x p zero = o .0 .apart x p
+  apart-from (C ∷ R) P o x p (suc j) = apart-from R (And P (member C)) (o .1) x (inl p) j
+
+  apart-in : (R : List (List ℕ)) (P : ℕ → Type 0) → Ordered S R P → (i j x : ℕ) → i < j → member (circleAt R i) x ≡ true → member (circleAt R j) x ≡ false
+  apart-in [] P o i j x l h = refl
+  apart-in (C ∷ R) P o i zero x l h = absurd (omega arith)
+  apart-in (C ∷ R) P o zero (suc j) x l h = apart-from R (And P (member C)) (o .1) x (inr h) j
+  apart-in (C ∷ R) P o (suc i) (suc j) x l h = apart-in R (And P (member C)) (o .1) i j x (omega arith) h
+
+  reads-in : (R : List (List ℕ)) (P : ℕ → Type 0) → Ordered S R P → (i x : ℕ) → member (circleAt R i) x ≡ true → (y : ℕ) → y ∈ S .args x
+      → P y ⊎ ((j : ℕ) × (j ≤ i) × (member (circleAt R j) y ≡ true))
+  reads-in [] P o i x h y m = absurd (true≢false (sym h))
+  reads-in (C ∷ R) P o zero x h y m = ⊎-elim (λ p. inl p) (λ k. inr (0, le-refl 0, k)) (o .0 .reads x h y m)
+  reads-in (C ∷ R) P o (suc i) x h y m = ⊎-elim
+      (λ a. ⊎-elim (λ p. inl p) (λ k. inr (0, omega arith, k)) a) (λ b. inr (suc (b .0), omega (arith, b .1), b .2))
+      (reads-in R (And P (member C)) (o .1) i x h y m)
+
+covered-in : (R : List (List ℕ)) (P : ℕ → Type 0) (x : ℕ) → Covered R P x → P x ⊎ ((i : ℕ) × (i < length R) × (member (circleAt R i) x ≡ true))
+covered-in [] P x c = inl c
+covered-in (C ∷ R) P x c = ⊎-elim
+    (λ a. ⊎-elim (λ p. inl p) (λ k. inr (0, omega arith, k)) a) (λ b. inr (suc (b .0), omega (arith, b .1), b .2))
+    (covered-in R (And P (member C)) x c)
+
+covered-from : (R : List (List ℕ)) (P : ℕ → Type 0) (x : ℕ) → P x → Covered R P x
+covered-from [] P x p = p
+covered-from (C ∷ R) P x p = covered-from R (And P (member C)) x (inl p)
+
+in-covered : (R : List (List ℕ)) (P : ℕ → Type 0) (i x : ℕ) → member (circleAt R i) x ≡ true → Covered R P x
+in-covered [] P i x h = absurd (true≢false (sym h))
+in-covered (C ∷ R) P zero x h = covered-from R (And P (member C)) x (inr h)
+in-covered (C ∷ R) P (suc i) x h = in-covered R (And P (member C)) i x h
+
+pub in-order-ranked : InOrderRanked
+in-order-ranked S R c = record {
+  apart = apart-in S R (λ x. ⊥) (c .ordered);
+  reads = λ i x h y m. ⊎-elim (λ p. absurd p) (λ j. j) (reads-in S R (λ x. ⊥) (c .ordered) i x h y m);
+  declared = λ i x h. c .declared x (in-covered R (λ x. ⊥) i x h);
+  covers = λ x d. ⊎-elim (λ p. absurd p) (λ i. i) (covered-in R (λ x. ⊥) x (c .covers x d));
+}
+
+pub in-order-by-rank : InOrderByRank
+in-order-by-rank S R L c v s = record { circle = λ i. given-more (λ x a. ⊎-elim (λ p. absurd p) (λ b. b) a) (climbed-least S R (λ x. ⊥) v L s (c .ordered) i) }

@@ -3,8 +3,10 @@ pub mod Climb
 pub mod Inside
 pub mod Laws
 pub mod Ordered
-pub mod Restrict
 pub mod Circuit
+pub mod ByRank
+pub mod Waived
+pub mod Restrict
 pub mod CircuitLaws
 pub mod Memory
 pub mod Wired

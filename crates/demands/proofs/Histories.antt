@@ -1,4 +1,4 @@
--- Behind every history the sets are the least, and every update opened there begins as its laws ask. Assumes nothing.
+-- Behind every history the sets are the least by rank, and every update opened there begins as its laws ask. Assumes nothing.
 use mathlib.Core.Path.{_≡_, sym, ap, _∙_, subst}
 use mathlib.Core.Bool.{true, false, true≢false}
 use mathlib.Core.Logic.{⊎-elim}
@@ -13,7 +13,6 @@ use Rattle.climb.specs.Circuit.{circleAt}
 use Rattle.climb.specs.Memory.{at}
 use Rattle.climb.proofs.Lists.{either}
 use Rattle.climb.proofs.Working.{untouched, after-small}
-use Rattle.climb.proofs.Finishing.{lawful-circles}
 use Rattle.tree.specs.Replace.{part}
 use Rattle.wire.specs.Instances.{declared, system}
 use Rattle.wire.specs.Laws.{Words}
@@ -60,7 +59,7 @@ module _ {t ns owns : List ℕ} {r : Record} {m : Memory} (q : Ready t ns owns r
       }
     where
       small : (a : Ran) → Finishes S R r (m .sets) a → Small (at (a .sets))
-      small a f x = rw (ap (λ (u : Assignment). u x) (f .value)) (after-small S R (sownOf r) (at (m .sets)) (lawful-circles S (lawful (q .sound)) R) (q .small) (length R) x)
+      small a f x = rw (ap (λ (u : Assignment). u x) (f .value)) (after-small S R (sownOf r) (at (m .sets)) (lawful (q .sound)) (q .small) (length R) x)
 
       empty : (a : Ran) → Finishes S R r (m .sets) a → (x : ℕ) → declared t ns x ≡ false → at (a .sets) x ≡ 0
       empty a f x h = ap (λ (u : Assignment). u x) (f .value) ∙ untouched S R (sownOf r) (at (m .sets)) (length R) x (λ k l. in-none x h k) ∙ q .empty x h

@@ -11,16 +11,18 @@ use lib.Dec.{eqb}
 use lib.ListN.{length, getD, List·getD-eq-default}
 use lib.Seq.{ext-getD}
 use Rattle.circles.specs.Ranked.{member, anyOf}
-use Rattle.climb.specs.System.{Assignment, System}
+use Rattle.climb.specs.System.{Assignment, System, graphOf}
 use Rattle.climb.specs.Climb.{stage, roundsOf}
 use Rattle.climb.specs.Circuit.{sumTo, circleAt, dueOf, afterOf, workedOf, roundsAt, circlesTo, roundsTo, evaluationsTo}
-use Rattle.climb.specs.Inside.{Small}
+use Rattle.climb.specs.ByRank.{LeastByRank}
+use Rattle.climb.specs.Restrict.{Solved}
 use Rattle.climb.specs.Laws.{Climbs, Alike}
 use Rattle.climb.specs.Memory.{at}
 use Rattle.climb.proofs.Lists.{either, le-or-lt, member-of, any-cong}
-use Rattle.climb.proofs.Systems.{least-unique, gains-inside, lawful-inside, weight-cong}
+use Rattle.climb.proofs.Systems.{weight-cong}
 use Rattle.climb.proofs.Stages.{stage-out}
 use Rattle.climb.proofs.Rounds.{climbs, lone-once, agree-alike}
+use Rattle.climb.proofs.Solving.{by-rank-unique}
 use Rattle.climb.proofs.Restriction.{climbs-again}
 use Rattle.climb.proofs.Sums.{sum-same}
 use Rattle.climb.proofs.Finishing.{agree-final}
@@ -34,14 +36,14 @@ use Rattle.update.proofs.Scheduling.{one-schedule}
 use Rattle.update.proofs.Stepping.{Ended, step-law}
 use Rattle.update.proofs.Running as running
 use Rattle.update.proofs.Running.{same-record}
-use Rattle.update.proofs.Ready.{circles, lawful, in-rank, Ready, begins, Settled}
+use Rattle.update.proofs.Ready.{circles, lawful, in-rank, Ready, begins, Settled, solved}
 use Rattle.demands.specs.Engine.{ours}
 use Rattle.demands.specs.History.{Working, at-start, and-run, WorkedToDone}
 use Rattle.demands.specs.Asked.{LeastSets, OneLeast}
 use Rattle.demands.specs.Work.{dueBy, climbBy, overDue, Climbing, RoundTurn, Makes}
 use Rattle.demands.specs.Demands.{WorkedOn, Counts, Concludes, Update}
 use Rattle.demands.specs.Counting.{countedAt, countedBehind, Uncut}
-use Rattle.demands.proofs.Circles.{first-member}
+use Rattle.demands.proofs.Circles.{first-member, one-by-rank, loadable, loadable-by-rank}
 use Rattle.demands.proofs.Due.{due-exactly}
 use Rattle.demands.proofs.Rows.{Amid, amid, ended, step-there, run-there}
 use Rattle.demands.proofs.Histories.{finished-settled}
@@ -73,11 +75,19 @@ some-due S fresh b v (x ∷ l) h = omega arith
 
 pub one-least : OneLeast
 one-least S v w a b = fun-ext (λ x. ⊎-elim
-    (λ (d : S .declared x ≡ true). least-unique S v w (a .least) (b .least) x d)
+    (λ (d : S .declared x ≡ true). let c = a .byRank .each x d in by-rank-unique S (a .circles) v w (a .least) there (c .0) x (c .2))
     (λ (d : S .declared x ≡ false). a .empty x d ∙ sym (b .empty x d)) (either (S .declared x)))
+  where
+    there : LeastByRank S (a .circles) w
+    there = subst (λ (R : List (List ℕ)). LeastByRank S R w) (one-by-rank (graphOf S) (b .circles) (a .circles) (b .byRank) (a .byRank)) (b .least)
+
+-- what is least is consistent
+pub least-consistent : (S : System) (v : Assignment) → LeastSets S v → (x : ℕ) → S .declared x ≡ true → v x ≡ S .eval v x
+least-consistent S v l x d = let c = l .byRank .each x d in l .least .circle (c .0) .consistent x (c .2)
 
 pub least-settled : {t ns owns : List ℕ} {r : Record} {m : Memory} → Settled t ns owns r m → LeastSets (system t ns owns) (at (m .sets))
-least-settled q = record { least = q .least; empty = q .empty }
+least-settled {t} {ns} {owns} q =
+    record { circles = circles t ns owns; byRank = loadable-by-rank t ns owns (loadable (q .sound)); least = q .least; empty = q .empty }
 
 -- what was asked of an opened update, beside what the calls wrote: v are the least sets of its tree, the sets are the ones before, and what is sown is what is
 -- fresh
@@ -122,8 +132,8 @@ module _ {t ns owns : List ℕ} {r : Record} {m : Memory} (q : Ready t ns owns r
   final : at (run N .sets) ≡ v
   final = one-least S (at (run N .sets)) v (least-settled settled) L
 
-  small : Small v
-  small = subst Small final (settled .small)
+  solution : Solved S R v
+  solution = subst (Solved S R) final (solved settled)
 
   after-all : afterOf S R (sownOf r) b (length R) ≡ v
   after-all = sym (F .value) ∙ final
@@ -159,14 +169,14 @@ module _ {t ns owns : List ℕ} {r : Record} {m : Memory} (q : Ready t ns owns r
     takes = c .takes;
     ends = ends;
     few = omega (arith, c .within, weight-cong (C i) (stage S (member (C i)) v (climb i)) v same);
-    lone = λ h. lone-once S (C i) (gains-inside S (lawful (q .sound) .gaining) (member (C i))) h v .one;
+    lone = λ h. lone-once S (C i) (lawful (q .sound) i .gaining) h v .one;
   }
     where
       c : Climbs S (C i) v
-      c = climbs S (C i) v (lawful-inside S (lawful (q .sound)) (member (C i))) small
+      c = climbs S (C i) v (lawful (q .sound) i) (solution .small)
 
       ends : (x : ℕ) → member (C i) x ≡ true → stage S (member (C i)) v (climb i) x ≡ v x
-      ends x h = climbs-again S (lawful (q .sound)) v (L .least) (member (C i)) (in-rank (q .sound) .declared i) (climb i) (c .closed) x h
+      ends x h = climbs-again S R v solution (member (C i)) (lawful (q .sound) i .gaining) (in-rank (q .sound) .declared i) (climb i) (c .closed) x h
 
       same : (x : ℕ) → stage S (member (C i)) v (climb i) x ≡ v x
       same x = ⊎-elim (λ (h : member (C i) x ≡ true). ends x h) (λ (h : member (C i) x ≡ false). stage-out S (member (C i)) v (climb i) x h) (either (member (C i) x))
@@ -193,7 +203,7 @@ module _ {t ns owns : List ℕ} {r : Record} {m : Memory} (q : Ready t ns owns r
 
   -- the values with which a circle is worked are for its climb the least ones
   alike : (i : ℕ) → i < length R → Alike S (C i) (afterOf S R (sownOf r) b i) v
-  alike i l = agree-alike S (C i) (gains-inside S (lawful (q .sound) .gaining) (member (C i))) (afterOf S R (sownOf r) b i) v
+  alike i l = agree-alike S (C i) (lawful (q .sound) i .gaining) (afterOf S R (sownOf r) b i) v
       (λ x h y a o. sym (agree-final S R (in-rank (q .sound)) (sownOf r) b i (omega arith) x h y a o) ∙ ap (λ (u : Assignment). u y) after-all)
 
   -- a pause leaves as many sets as there were

@@ -21,11 +21,11 @@ use Rattle.climb.proofs.Lists.{either}
 use Rattle.update.specs.declared.Record.{Record}
 use Rattle.update.specs.Records.{isOpen, beyond}
 use Rattle.update.specs.Memories.{Memory, nodesOf}
-use Rattle.update.specs.Refusals.{firstRefusal, when, short, heldRefusal, loadRefusal, passes, replaceRefusal, stepRefusal, readRefusal}
+use Rattle.update.specs.Refusals.{firstRefusal, when, short, heldRefusal, loadRefusal, passes, nodesThen, replaceRefusal, stepRefusal, readRefusal}
 use Rattle.update.proofs.Within.{short-means, beyond-means}
 pub use Rattle.update.proofs.Ready.{tree-equal, tree-sound}
 use Rattle.wire.specs.Instances.{declared}
-use Rattle.judging.specs.Order.{groundNumbers, loadNumbers, heldNumbers, lookNumbers, pointNumbers, partNumbers, goingNumbers, Grounded, Holding, Going}
+use Rattle.judging.specs.Order.{groundNumbers, loadNumbers, heldNumbers, lookNumbers, pointNumbers, partNumbers, waiverNumbers, goingNumbers, Grounded, Holding, Going}
 
 module _ (l k : List ℕ) where
   -- where the first part refuses nothing the second decides
@@ -61,13 +61,13 @@ module _ (t : List ℕ) (m : Memory) (r : Record) where
   -- ---- a load
 
   module _ (ns owns : List ℕ) where
-    pub load-past : Grounded t m r → loadRefusal t m r ns owns ≡ firstRefusal (loadNumbers t r ns owns)
+    pub load-past : Grounded t m r → loadRefusal t m r ns owns ≡ firstRefusal (loadNumbers t r ns owns ++ waiverNumbers t ns)
     unfolding loadRefusal
-    load-past g = past (groundNumbers t m r) (loadNumbers t r ns owns) (ground-none g)
+    load-past g = past (groundNumbers t m r) (loadNumbers t r ns owns ++ waiverNumbers t ns) (ground-none g)
 
     pub load-stopped : (q : Refusal) → numberOf q ≡ firstRefusal (groundNumbers t m r) → numberOf q ≡ loadRefusal t m r ns owns
     unfolding loadRefusal
-    load-stopped q e = stopped (groundNumbers t m r) (loadNumbers t r ns owns) q e
+    load-stopped q e = stopped (groundNumbers t m r) (loadNumbers t r ns owns ++ waiverNumbers t ns) q e
 
   -- ---- a look at the held tree
 
@@ -145,23 +145,27 @@ module _ (t : List ℕ) (m : Memory) (r : Record) where
 
     pub replace-stopped : (q : Refusal) → numberOf q ≡ firstRefusal (lookNumbers t m r) → numberOf q ≡ replaceRefusal t m r point new newOwns
     unfolding replaceRefusal newNumber
-    replace-stopped q e = stopped (lookNumbers t m r) (when (leb (r .nodes) point) 9 ∷ when (passes t m r point new) 8 ∷ newNumber ∷ []) q e
+    replace-stopped q e = stopped (lookNumbers t m r) (when (leb (r .nodes) point) 9 ∷ when (passes t m r point new) 8 ∷ newNumber ∷ waiverNumbers t (nodesThen t m r point new)) q e
 
     -- the new part's numbers, where its old part is counted
     abbrev pub newNumbers : List ℕ
     newNumbers = partNumbers t (nodesOf m (r .nodes)) (r .nodes) point (part t (nodesOf m (r .nodes)) point) new newOwns
 
-    pub replace-past : Holding t m r → replaceRefusal t m r point new newOwns ≡ firstRefusal (pointNumbers r point ++ newNumbers)
+    -- and then the new tree's
+    abbrev lastNumbers : List ℕ
+    lastNumbers = waiverNumbers t (nodesThen t m r point new)
+
+    replace-past : Holding t m r → replaceRefusal t m r point new newOwns ≡ firstRefusal (pointNumbers r point ++ (newNumbers ++ lastNumbers))
     unfolding replaceRefusal passes first newNumber
     replace-past k =
-        past (groundNumbers t m r) (when (isOpen (r .«open»)) 10 ∷ when (not (r .held)) 16 ∷ heldRefusal t m r ∷ when (leb (r .nodes) point) 9 ∷ newNumbers) (ground-none (k .ground))
+        past (groundNumbers t m r) (when (isOpen (r .«open»)) 10 ∷ when (not (r .held)) 16 ∷ heldRefusal t m r ∷ when (leb (r .nodes) point) 9 ∷ (newNumbers ++ lastNumbers)) (ground-none (k .ground))
         ∙ ⊎-elim (λ (h : r .held ≡ true). rw (k .tree h)) (λ (h : r .held ≡ false). rw h) (either (r .held))
 
     pub point-stopped : Holding t m r → (q : Refusal) → numberOf q ≡ firstRefusal (pointNumbers r point) → numberOf q ≡ replaceRefusal t m r point new newOwns
-    point-stopped k q e = stopped (pointNumbers r point) newNumbers q e ∙ sym (replace-past k)
+    point-stopped k q e = stopped (pointNumbers r point) (newNumbers ++ lastNumbers) q e ∙ sym (replace-past k)
 
-    pub point-past : Holding t m r → firstRefusal (pointNumbers r point) ≡ 0 → replaceRefusal t m r point new newOwns ≡ firstRefusal newNumbers
-    point-past k h = replace-past k ∙ past (pointNumbers r point) newNumbers h
+    pub point-past : Holding t m r → firstRefusal (pointNumbers r point) ≡ 0 → replaceRefusal t m r point new newOwns ≡ firstRefusal (newNumbers ++ lastNumbers)
+    point-past k h = replace-past k ∙ past (pointNumbers r point) (newNumbers ++ lastNumbers) h
 
   -- the point is one where a replacement may be
   pub record Pointed (point : ℕ) : Type 0 where
@@ -210,18 +214,19 @@ module _ (t : List ℕ) (r : Record) (ns owns : List ℕ) (o : isOpen (r .«open
   pub load-judged : length ns ≤ 512 → length ns ≡ length owns → judgeNodes t ns (0 ∷ []) ≡ firstRefusal (loadNumbers t r ns owns)
   load-judged h e = tree-judged t ns owns 0 e ∙ load-last h
 
--- a load that refuses nothing has a tree of equal lengths within 512 nodes
-pub record Loads (ns owns : List ℕ) : Type 0 where
+-- a load that refuses nothing has a sound tree of equal lengths within 512 nodes
+pub record Loads (t ns owns : List ℕ) : Type 0 where
   pub few : length ns ≤ 512
   pub equal : length owns ≡ length ns
+  pub sound : judgeNodes t ns (0 ∷ []) ≡ 0
 
-pub loads : (t : List ℕ) (r : Record) (ns owns : List ℕ) → firstRefusal (loadNumbers t r ns owns) ≡ 0 → Loads ns owns
+pub loads : (t : List ℕ) (r : Record) (ns owns : List ℕ) → firstRefusal (loadNumbers t r ns owns) ≡ 0 → Loads t ns owns
 unfolding first
 loads t r ns owns h =
     let a = or-none (when (isOpen (r .«open»)) 10) (orElse (when (ltb 512 (length ns)) 8) (orElse (judgeTree t ns owns 0) 0)) h in
     let b = or-none (when (ltb 512 (length ns)) 8) (orElse (judgeTree t ns owns 0) 0) (a .1) in
     let c = or-none (judgeTree t ns owns 0) 0 (b .1) in
-    record { few = ltb-false 512 (length ns) (unmet (ltb 512 (length ns)) 7 (b .0)); equal = tree-equal t ns owns 0 (c .0) }
+    record { few = ltb-false 512 (length ns) (unmet (ltb 512 (length ns)) 7 (b .0)); equal = tree-equal t ns owns 0 (c .0); sound = tree-sound t ns owns 0 (c .0) }
 
 module _ (t tree : List ℕ) (nodes point old : ℕ) (new newOwns : List ℕ) (n : nodes ≤ 512) (k : old ≤ nodes) where
   pub part-size : 512 - (nodes - old) < length new → 8 ≡ firstRefusal (partNumbers t tree nodes point old new newOwns)

@@ -1,8 +1,6 @@
 // Load and replacement: what opens an update.
 use judging::judge_ground;
-use judging::judge_load;
 use judging::judge_look;
-use judging::judge_part;
 use judging::judge_point;
 use judging::part_of;
 use memory::placing::place_part;
@@ -10,6 +8,8 @@ use memory::placing::place_tree;
 use refusal::Verdict;
 use update::Open;
 use update::Record;
+use waiving::judge_loaded;
+use waiving::judge_replaced;
 ghost use mathlib.Core.Path.{_≡_};
 ghost use mathlib.Core.Bool.{true, false};
 ghost use Prim.Native.Nat.{_<_};
@@ -55,7 +55,7 @@ pub fn load_judged(
     requires { ⌜ Grounded (now table) (lent (now held) (now «held_owns») (now sets) (now before)) «record» ⌝ }
     ensures { λ r. ⌜ LoadLeaves (now (table .entry)) (lent (now (held .entry)) (now («held_owns» .entry)) (now (sets .entry)) (now (before .entry))) «record» (now (productions .entry)) (now (owns .entry)) r (lent (now (held .exit)) (now («held_owns» .exit)) (now (sets .exit)) (now (before .exit))) ⌝ }
 {
-    match judge_load(table, record, productions, owns) {
+    match judge_loaded(table, record, productions, owns) {
         Verdict::Sound => {
             place_tree(productions, owns, held, held_owns, sets, before);
             let nodes = productions.len();
@@ -122,7 +122,7 @@ fn exchange_part(
 {
     let nodes = record.nodes;
     let old = part_of(table, &held[..nodes], point);
-    match judge_part(table, &*held, nodes, point, old, new, new_owns) {
+    match judge_replaced(table, &*held, nodes, point, old, new, new_owns) {
         Verdict::Sound => {
             place_part(
                 table,

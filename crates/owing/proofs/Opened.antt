@@ -68,7 +68,7 @@ module _ (t : List ℕ) (m : Memory) (r : Record) where
       let c = all-exactly t m r .load ns owns .by0 .0 h in
       let room = short-means m .0 (c .0) in
       let few : length ns ≤ 512 = c .1 .1 .1 .1 .0 in
-      let e : length owns ≡ length ns = tree-equal t ns owns 0 (c .1 .1 .1 .1 .1) in
+      let e : length owns ≡ length ns = tree-equal t ns owns 0 (c .1 .1 .1 .1 .1 .0) in
       record {
         productions = length-filled ns (m .productions) (omega (arith, room .productions));
         owns = length-filled owns (m .owns) (omega (arith, room .owns));
@@ -81,7 +81,7 @@ module _ (t : List ℕ) (m : Memory) (r : Record) where
   load-going ns owns h =
       let c = all-exactly t m r .load ns owns .by0 .0 h in
       let room = short-means m .0 (c .0) in
-      let j : judgeTree t ns owns 0 ≡ 0 = c .1 .1 .1 .1 .1 in
+      let j : judgeTree t ns owns 0 ≡ 0 = c .1 .1 .1 .1 .1 .0 in
       let e : length owns ≡ length ns = tree-equal t ns owns 0 j in
       record {
         ground = record {
@@ -127,7 +127,7 @@ module _ (t : List ℕ) (m : Memory) (r : Record) where
         let held : judgeTree t ns (ownsOf m (r .nodes)) 0 ≡ 0 = c .1 .1 .1 .1 .1 .0 in
         let below : point < r .nodes = c .1 .1 .1 .1 .1 .1 .0 in
         let few : count ≤ 512 = c .1 .1 .1 .1 .1 .1 .1 .0 in
-        let part-sound : judgeTree t new newOwns (leftOf t (getD ns point 0)) ≡ 0 = c .1 .1 .1 .1 .1 .1 .1 .1 in
+        let part-sound : judgeTree t new newOwns (leftOf t (getD ns point 0)) ≡ 0 = c .1 .1 .1 .1 .1 .1 .1 .1 .0 in
         let n : length ns ≡ r .nodes = length-take-le (r .nodes) (m .productions) (omega (arith, room .productions, within .nodes)) in
         let o : length (ownsOf m (r .nodes)) ≡ r .nodes = length-take-le (r .nodes) (m .owns) (omega (arith, room .owns, within .nodes)) in
         let e : length newOwns ≡ length new = tree-equal t new newOwns _ part-sound in

@@ -31,6 +31,7 @@ by-number why.Frame = refl
 by-number why.Buffer = refl
 by-number why.Absent = refl
 by-number why.Idle = refl
+by-number why.Waiver = refl
 
 -- all 17, by computation
 all-numbered : (i : ℕ) → i < 17 → not (eqb (numberOf (refusalOf (suc i))) (suc i)) ≡ false

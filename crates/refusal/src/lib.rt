@@ -1,4 +1,4 @@
-// The refusals of document 01, one name a number, and what a checker answers.
+// The refusals of document 01 and of the requests, one name a number, and what a checker answers.
 ghost use Rattle.refusal.specs.Numbers.{NumberSays};
 
 pub enum Refusal {
@@ -8,7 +8,7 @@ pub enum Refusal {
     Symbol,
     // 3: symbol 0 has an inherited set
     Start,
-    // 4: op above 8, an unused field not zero, or op 7 with c above 56
+    // 4: op above 9, an unused field not zero, or op 7 with c above 56
     Form,
     // 5: an argument names no declared occurrence
     Argument,
@@ -36,6 +36,8 @@ pub enum Refusal {
     Absent,
     // 17: step or run with no update open
     Idle,
+    // 21: a waiver inside a circle
+    Waiver,
 }
 
 // What a checker answers.
@@ -65,5 +67,6 @@ pub fn number(refusal: Refusal) -> u8
         Refusal::Buffer => 15,
         Refusal::Absent => 16,
         Refusal::Idle => 17,
+        Refusal::Waiver => 21,
     }
 }

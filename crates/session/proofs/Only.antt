@@ -14,11 +14,9 @@ use Rattle.update.specs.Memories.{Memory}
 use Rattle.update.specs.Refused.{Leaves}
 use Rattle.update.specs.Calls.{Said, Left, leaving, Opened, is-open, loadCall, replaceCall}
 use Rattle.update.proofs.Refusing.{all-leave}
-use Rattle.demands.specs.Engine.{ours}
-use Rattle.demands.specs.History.{History}
-use Rattle.demands.specs.Asked.{ByRank, newRule, surviving, valueBefore}
+use Rattle.demands.specs.Asked.{newRule, surviving, valueBefore}
 use Rattle.demands.proofs.Updating.{one-least}
-use Rattle.demands.proofs.Circles.{every-tree-by-rank}
+use Rattle.demands.proofs.Circles.{one-by-rank}
 use Rattle.frames.specs.Frames.{frameAt}
 use Rattle.frames.specs.Out.{refusalText}
 use Rattle.frames.specs.declared.Frame.{Frame}
@@ -31,20 +29,31 @@ use Rattle.texts.proofs.Passing.{frame-on, none-left}
 use Rattle.planting.specs.Planting.{good}
 use Rattle.session.specs.Session.{Told, openedThen, toDone, dumpTold, andOn, command, commandsFrom, ownMemory, afterTable, session}
 use Rattle.session.specs.Lines.{LoadText, ReplacementText, UpdateText, SetsText}
-use Rattle.session.specs.Commands.{TreeHeld, no-tree, tree, Between, at-first, behind-history, LoadNumber, ReplaceNumber, too-many, judged, absent, outside, CommandAt, Command, load-refused, loads, replacement-refused, replaces, dump-refused, dumps, outOfPlace, Stops, over, bad-line, misplaced, bad-load, bad-replacement, Commands, stops, goes-on, no-table, runs, OnlySession}
+use Rattle.session.specs.Commands.{TreeHeld, no-tree, tree, Between, at-first, behind-history, TreeNumber, misshapen, waived, sound, LoadNumber, ReplaceNumber, too-many, judged, absent, outside, CommandAt, Command, load-refused, loads, replacement-refused, replaces, dump-refused, dumps, outOfPlace, Stops, over, bad-line, misplaced, bad-load, bad-replacement, Commands, stops, goes-on, no-table, runs, OnlySession}
 use Rattle.session.proofs.Reading.{TableKept, table-kept}
-use Rattle.session.proofs.Resting.{finished-state, rests, load-number, replace-number, dump-number}
+use Rattle.session.proofs.Resting.{rests, load-number, replace-number, dump-number}
 use Rattle.session.proofs.Updates.{load-carried, replacement-carried}
 use Rattle.session.proofs.Texts.{one-update, one-dump}
 use Rattle.session.proofs.Commands.{opens, nodes-behind, sets-text}
 
 -- ---- the numbers
 
+one-tree : {t ns : List ℕ} {handed a b : ℕ} → TreeNumber t ns handed a → TreeNumber t ns handed b → a ≡ b
+one-tree (misshapen h) (misshapen k) = refl
+one-tree (misshapen h) (waived z w) = absurd (omega arith)
+one-tree (misshapen h) (sound z f) = absurd (omega arith)
+one-tree (waived z w) (misshapen h) = absurd (omega arith)
+one-tree (waived z w) (waived y v) = refl
+one-tree (waived z w) (sound y f) = absurd (f w)
+one-tree (sound z f) (misshapen h) = absurd (omega arith)
+one-tree (sound z f) (waived y w) = absurd (f w)
+one-tree (sound z f) (sound y g) = refl
+
 one-load : {t ns owns : List ℕ} {a b : ℕ} → LoadNumber t ns owns a → LoadNumber t ns owns b → a ≡ b
 one-load (too-many h) (too-many k) = refl
 one-load (too-many h) (judged k e) = absurd (omega arith)
 one-load (judged h e) (too-many k) = absurd (omega arith)
-one-load (judged h e) (judged k f) = sym e ∙ f
+one-load (judged h e) (judged k f) = one-tree e f
 
 one-replacement : {t new newOwns : List ℕ} {point a b : ℕ} {h : TreeHeld} → ReplaceNumber t point new newOwns h a → ReplaceNumber t point new newOwns h b → a ≡ b
 one-replacement absent absent = refl
@@ -56,7 +65,7 @@ one-replacement (too-many h i) (too-many k l) = refl
 one-replacement (too-many h i) (judged k l e) = absurd (omega arith)
 one-replacement (judged h i e) (outside k) = absurd (omega arith)
 one-replacement (judged h i e) (too-many k l) = absurd (omega arith)
-one-replacement (judged h i e) (judged k l f) = sym e ∙ f
+one-replacement (judged h i e) (judged k l f) = one-tree e f
 
 -- ---- a call by its number, as it is told
 
@@ -69,13 +78,6 @@ told-opened : (t : List ℕ) (line : ℕ) {k : ℕ} {r : Record} {m : Memory} {l
 told-opened t line {r = r} {m} {left} l e =
     let o = opens (subst (λ (k : ℕ). Leaves k r m left) e l) in
     (o, ap (openedThen line t) o)
-
--- the circles by rank of a tree that a history ends with are determined
-one-rank : {t ns owns : List ℕ} {r : Record} {m : Memory} → History ours t ns owns r m
-    → (A B : List (List ℕ)) → ByRank (graphOf (system t ns owns)) A → ByRank (graphOf (system t ns owns)) B → A ≡ B
-one-rank {t} {ns} {owns} h A B a b =
-    let only = every-tree-by-rank t ns owns (finished-state h .sound) .1 in
-    only A a ∙ sym (only B b)
 
 -- ---- the commands
 
@@ -137,18 +139,17 @@ module _ (s t : List ℕ) (q : TableKept t) where
   Rest go rest place place′ line′ h = (r : Record) (m : Memory) → Between t h r m → place < place′ → rest ≡ go place′ line′ r m
 
   -- the text of an update is determined
-  load-only : {ns owns a b : List ℕ} {r : Record} {m : Memory} → History ours t ns owns r m → LoadText t ns owns a → LoadText t ns owns b → a ≡ b
-  load-only {ns} {owns} h p told = one-update (system t ns owns) (λ x. true) (λ x. false) (λ x. 0) (one-rank h) p told
+  load-only : (ns owns : List ℕ) {a b : List ℕ} → LoadText t ns owns a → LoadText t ns owns b → a ≡ b
+  load-only ns owns p told = one-update (system t ns owns) (λ x. true) (λ x. false) (λ x. 0) (one-by-rank (graphOf (system t ns owns))) p told
 
-  replacement-only : {ns owns new newOwns a b : List ℕ} {point : ℕ} {r : Record} {m : Memory}
-      → History ours t (nodesAfter t ns new point) (ownsAfter t ns owns newOwns point) r m
+  replacement-only : {ns owns new newOwns a b : List ℕ} {point : ℕ}
       → ReplacementText t ns owns point new newOwns a → ReplacementText t ns owns point new newOwns b → a ≡ b
-  replacement-only {ns} {owns} {new} {newOwns} {a} {b} {point} h p told =
+  replacement-only {ns} {owns} {new} {newOwns} {a} {b} {point} p told =
       let ns′ : List ℕ = nodesAfter t ns new point in
       let S = system t ns′ (ownsAfter t ns owns newOwns point) in
       let e : p .old ≡ told .old = one-least (system t ns owns) (p .old) (told .old) (p .least) (told .least) in
       let u = subst (λ (v : Assignment). UpdateText S (newRule t ns′ point (length new)) (surviving point (length new)) (valueBefore t ns new point v) a) e (p .update) in
-      one-update S (newRule t ns′ point (length new)) (surviving point (length new)) (valueBefore t ns new point (told .old)) (one-rank h) u (told .update)
+      one-update S (newRule t ns′ point (length new)) (surviving point (length new)) (valueBefore t ns new point (told .old)) (one-by-rank (graphOf S)) u (told .update)
 
   none-dumped : {r : Record} {m : Memory} (line : ℕ) → Between t no-tree r m → dumpTold line t r m .text ≡ refusalText 16 line
   unfolding dumpTold
@@ -169,7 +170,7 @@ module _ (s t : List ℕ) (q : TableKept t) where
       let f = nodes-behind c (rw (c .frame) (omega arith)) in
       let o = told-opened t line (all-leave t m r .load ns owns) e in
       let d = load-carried t ns owns r _ m _ (q .words) (f .0) (o .0) in
-      told-on place line r m go place′ line′ (o .1) (load-only (d .done .history) text (d .text)) (on _ _ (behind-history (d .done .history)) (f .1))
+      told-on place line r m go place′ line′ (o .1) (load-only ns owns text (d .text)) (on _ _ (behind-history (d .done .history)) (f .1))
       ∙ sym (load-here place line r m go c)
   command-only {place} {line} {place′} {line′} {r = r} {m = m} go (replacement-refused {new = new} {newOwns} point c num some) b on =
       let e = one-replacement (replace-number b (q .sound) point new newOwns) num in
@@ -181,7 +182,7 @@ module _ (s t : List ℕ) (q : TableKept t) where
       let f = nodes-behind c (rw (c .frame) (omega arith)) in
       let o = told-opened t line (all-leave t m r .replace point new newOwns) e in
       let d = replacement-carried t ns owns r _ m _ a point new newOwns (f .0) (o .0) in
-      told-on place line r m go place′ line′ (o .1) (replacement-only (d .done .history) text (d .text)) (on _ _ (behind-history (d .done .history)) (f .1))
+      told-on place line r m go place′ line′ (o .1) (replacement-only text (d .text)) (on _ _ (behind-history (d .done .history)) (f .1))
       ∙ sym (replacement-here place line r m go c)
   command-only {place} {line} {r = r} {m = m} go (dump-refused e) b on =
       let g = on r m b (frame-on s place line (rw e (omega arith))) in

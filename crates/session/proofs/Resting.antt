@@ -1,28 +1,35 @@
 -- What is known between two commands, and the number that each command gets there. Assumes nothing.
-use mathlib.Core.Path.{_≡_, refl, sym, ap, _∙_}
+use mathlib.Core.Path.{_≡_, refl, ap, _∙_}
 use mathlib.Core.Bool.{true, false}
 use mathlib.Core.Logic.{⊎-elim}
-use mathlib.Core.List.{List}
-use Prim.Native.Nat.{ℕ, _+_, _-_, _≤_, _<_}
+use mathlib.Core.List.{List, [], _∷_}
+use Prim.Native.Nat.{ℕ, zero, suc, _+_, _-_, _≤_, _<_}
 use native.Mathlib.Omega.{arith}
 use borrow.Author.Tests.{lt-ltb, le-ltb, le-leb, lt-leb}
-use lib.ListN.{length, length-replicate}
+use lib.ListN.{length, getD, length-replicate}
 use Rattle.lines.proofs.Values.{lt-or-ge}
 use Rattle.table.specs.First.{first}
+use Rattle.table.specs.Words.{leftOf}
 use Rattle.table.specs.Judge.{judgeTable}
 use Rattle.tree.specs.Replace.{part}
-use Rattle.tree.proofs.Handed.{or-zero}
+use Rattle.tree.specs.Tree.{judgeNodes, judgeTree}
+use Rattle.tree.proofs.Replace.{replacement}
+use Rattle.climb.proofs.Lists.{either}
+use Rattle.wire.specs.Replaced.{nodesAfter}
+use Rattle.wire.specs.Waivers.{waives}
+use Rattle.wire.proofs.Waivers.{every-tree-waives}
 use Rattle.update.specs.declared.Record.{Record}
 use Rattle.update.specs.Records.{isOpen, beyond, shut, emptyRecord}
 use Rattle.update.specs.Memories.{Memory, nodesOf}
-use Rattle.update.specs.Refusals.{firstRefusal, short, heldRefusal, loadRefusal, passes, replaceRefusal, lookRefusals}
+use Rattle.update.specs.Refusals.{firstRefusal, when, short, heldRefusal, loadRefusal, passes, replaceRefusal, lookRefusals}
 use Rattle.update.proofs.Within.{short-means, all-shut}
+use Rattle.update.proofs.Ready.{tree-sound}
 use Rattle.demands.specs.Engine.{ours}
 use Rattle.demands.specs.History.{History}
 use Rattle.demands.specs.Demands.{FinishedState}
 use Rattle.demands.proofs.Ours.{ours-2}
 use Rattle.session.specs.Session.{ownMemory}
-use Rattle.session.specs.Commands.{TreeHeld, no-tree, tree, Between, at-first, behind-history, LoadNumber, ReplaceNumber, too-many, judged, absent, outside}
+use Rattle.session.specs.Commands.{TreeHeld, no-tree, tree, Between, at-first, behind-history, TreeNumber, misshapen, waived, sound, LoadNumber, ReplaceNumber, too-many, judged, absent, outside}
 
 -- ---- behind a history
 
@@ -62,12 +69,13 @@ pub record Kept (t ns owns : List ℕ) (r : Record) (m : Memory) : Type 0 where
   pub count : r .nodes ≡ length ns
   pub nodes : nodesOf m (length ns) ≡ ns
   pub sound : heldRefusal t m r ≡ 0
+  pub shape : judgeNodes t ns (0 ∷ []) ≡ 0
 
 pub keeps : {t ns owns : List ℕ} {r : Record} {m : Memory} → FinishedState ours t ns owns r m → Kept t ns owns r m
 unfolding shut
 keeps {t} {ns} {owns} {r} {m} q =
     let n : r .nodes ≡ length ns = ap (λ (k : Record). k .nodes) (q .closed) in
-    record { held = ap (λ (k : Record). k .held) (q .closed); count = n; nodes = q .nodes; sound = rw (n, q .nodes, q .owned) (q .sound .tree) }
+    record { held = ap (λ (k : Record). k .held) (q .closed); count = n; nodes = q .nodes; sound = rw (n, q .nodes, q .owned) (q .sound .tree); shape = tree-sound t ns owns 0 (q .sound .tree) }
 
 none-held : emptyRecord .held ≡ false
 unfolding emptyRecord shut
@@ -75,12 +83,22 @@ none-held = refl
 
 -- ---- the numbers
 
+-- of a tree that is sound if what was handed over is
+tree-number : (t ns : List ℕ) → judgeTable t ≡ 0 → (handed : ℕ) → (handed ≡ 0 → judgeNodes t ns (0 ∷ []) ≡ 0)
+    → TreeNumber t ns handed (firstRefusal (handed ∷ when (waives t ns) 21 ∷ []))
+unfolding first
+tree-number t ns table zero f = ⊎-elim
+    (λ (h : waives t ns ≡ true). rw h (waived refl (every-tree-waives t ns table (f refl) .some .0 h)))
+    (λ (h : waives t ns ≡ false). rw h (sound refl (every-tree-waives t ns table (f refl) .none .0 h)))
+    (either (waives t ns))
+tree-number t ns table (suc n) f = misshapen (omega arith)
+
 module _ (t : List ℕ) {r : Record} {m : Memory} (i : Idle r m) (table : judgeTable t ≡ 0) where
   pub load-number : (ns owns : List ℕ) → LoadNumber t ns owns (loadRefusal t m r ns owns)
   unfolding loadRefusal first
   load-number ns owns = rw (i .long, table, i .within, i .idle) (⊎-elim
       (λ (h : 512 < length ns). rw (lt-ltb 512 (length ns) h) (too-many h))
-      (λ (h : length ns ≤ 512). rw (le-ltb 512 (length ns) h) (judged h (sym (or-zero _))))
+      (λ (h : length ns ≤ 512). rw (le-ltb 512 (length ns) h) (judged h (tree-number t ns table (judgeTree t ns owns 0) (tree-sound t ns owns 0))))
       (lt-or-ge 512 (length ns)))
 
   replace-absent : r .held ≡ false → (point : ℕ) (new newOwns : List ℕ) → replaceRefusal t m r point new newOwns ≡ 16
@@ -92,10 +110,12 @@ module _ (t : List ℕ) {r : Record} {m : Memory} (i : Idle r m) (table : judgeT
   unfolding replaceRefusal passes first
   replace-held {ns} k point new newOwns =
       let left : ℕ = length ns - part t ns point + length new in
+      let symbol : ℕ = leftOf t (getD ns point 0) in
       rw (i .long, table, i .within, i .idle, k .held, k .sound, k .count, k .nodes) (⊎-elim
       (λ (h : point < length ns). rw (lt-leb (length ns) point h) (⊎-elim
       (λ (l : 512 < left). rw (lt-ltb 512 left l) (too-many h l))
-      (λ (l : left ≤ 512). rw (le-ltb 512 left l) (judged h l (sym (or-zero _)))) (lt-or-ge 512 left)))
+      (λ (l : left ≤ 512). rw (le-ltb 512 left l) (judged h l (tree-number t (nodesAfter t ns new point) table (judgeTree t new newOwns symbol)
+      (λ e. replacement t ns new 0 point (k .shape) h (tree-sound t new newOwns symbol e) .sound)))) (lt-or-ge 512 left)))
       (λ (h : length ns ≤ point). rw (le-leb (length ns) point h) (outside h)) (lt-or-ge point (length ns)))
 
   dump-absent : r .held ≡ false → firstRefusal (lookRefusals t m r 0) ≡ 16

@@ -25,7 +25,7 @@ use Rattle.demands.specs.History.{Working, at-start, and-step, WorkedToDone, by
 use Rattle.demands.specs.Asked.{LeastSets, ByRank, surviving, changedFrom}
 use Rattle.demands.specs.Demands.{ComesToDone, Update, roundsDue, circlesDue, evaluationsDue}
 use Rattle.demands.proofs.Ours.{ours-2, ours-3}
-use Rattle.demands.proofs.Circles.{every-tree-by-rank}
+use Rattle.demands.proofs.Circles.{loadable-by-rank}
 use Rattle.session.specs.Session.{Told, stepThen, stepsTold, toDone}
 use Rattle.session.specs.Lines.{UpdateLines, then-round, then-done, UpdateText, LoadText, ReplacementText}
 use Rattle.session.specs.Commands.{UpdateDone}
@@ -87,7 +87,7 @@ module _ {t ns owns : List ℕ} {r : Record} {m : Memory} (o : Opening ours t ns
   least = ours-2 .holds t ns owns (comes .next) (comes .memory) (comes .history) .sets
 
   by-rank : ByRank (graphOf S) R
-  by-rank = every-tree-by-rank t ns owns (finished-state (comes .history) .sound) .0
+  by-rank = loadable-by-rank t ns owns (finished-state (comes .history) .sound)
 
   module _ {fresh : ℕ → Bool} {before : Assignment} {due : ℕ → Bool} {climb : ℕ → ℕ} {changed : ℕ} (u : Update ours t S R fresh before v due climb changed r m) where
     few-rounds : roundsDue R due climb < evaluationsMost

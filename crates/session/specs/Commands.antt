@@ -11,6 +11,7 @@ use Rattle.table.specs.Words.{leftOf}
 use Rattle.tree.specs.Tree.{judgeTree}
 use Rattle.tree.specs.Replace.{part}
 use Rattle.wire.specs.Replaced.{nodesAfter, ownsAfter}
+use Rattle.wire.specs.Waivers.{Waiver, Free}
 use Rattle.update.specs.declared.Record.{Record}
 use Rattle.update.specs.Records.{emptyRecord}
 use Rattle.update.specs.Memories.{Memory}
@@ -42,19 +43,25 @@ pub data Between (t : List ℕ) : TreeHeld → Record → Memory → Type 0 wher
 -- ---- the number that a load or a replacement gets in a session, 0 where it is accepted. What else their orders of refusals name never comes between two
 -- commands: the memory is long enough, table, record and held tree are sound, and no update is open
 
--- a load: 8 for too many nodes, else what the tree is judged by
+-- nodes that there is room for: 6 or 7 by what was handed over, else 21 for a waiver inside a circle of the tree that they make
+pub data TreeNumber (t ns : List ℕ) (handed : ℕ) : ℕ → Type 0 where
+  misshapen : 0 < handed → TreeNumber t ns handed handed
+  waived : handed ≡ 0 → Waiver t ns → TreeNumber t ns handed 21
+  sound : handed ≡ 0 → Free t ns → TreeNumber t ns handed 0
+
+-- a load: 8 for too many nodes, else the number of the tree
 pub data LoadNumber (t ns owns : List ℕ) : ℕ → Type 0 where
   too-many : 512 < length ns → LoadNumber t ns owns 8
-  judged : {n : ℕ} → length ns ≤ 512 → judgeTree t ns owns 0 ≡ n → LoadNumber t ns owns n
+  judged : {n : ℕ} → length ns ≤ 512 → TreeNumber t ns (judgeTree t ns owns 0) n → LoadNumber t ns owns n
 
--- a replacement: 16 where no tree is held, 9 for a point outside it, 8 where the tree would have too many nodes, else what the new part is judged by, whose root
--- is to have the symbol of the point
+-- a replacement: 16 where no tree is held, 9 for a point outside it, 8 where the tree would have too many nodes, else the number of the new part, whose root
+-- is to have the symbol of the point, and of the tree with that part in its place
 pub data ReplaceNumber (t : List ℕ) (point : ℕ) (new newOwns : List ℕ) : TreeHeld → ℕ → Type 0 where
   absent : ReplaceNumber t point new newOwns no-tree 16
   outside : {ns owns : List ℕ} → length ns ≤ point → ReplaceNumber t point new newOwns (tree ns owns) 9
   too-many : {ns owns : List ℕ} → point < length ns → 512 < length ns - part t ns point + length new → ReplaceNumber t point new newOwns (tree ns owns) 8
   judged : {ns owns : List ℕ} {n : ℕ} → point < length ns → length ns - part t ns point + length new ≤ 512
-      → judgeTree t new newOwns (leftOf t (getD ns point 0)) ≡ n → ReplaceNumber t point new newOwns (tree ns owns) n
+      → TreeNumber t (nodesAfter t ns new point) (judgeTree t new newOwns (leftOf t (getD ns point 0))) n → ReplaceNumber t point new newOwns (tree ns owns) n
 
 -- ---- a command of the text s, its first line at a place with a number
 

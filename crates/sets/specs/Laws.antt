@@ -5,10 +5,10 @@ use Prim.Native.Nat.{ℕ, _+_, _-_, _/_, _<_, _≤_, _^_}
 use lib.Bits.{bitAnd, bitOr}
 use Rattle.sets.specs.declared.Argument.{Argument}
 use Rattle.sets.specs.declared.Op.{Op}
-use Rattle.sets.specs.declared.Op.the-variants.{Constant, Own, JoinConstant, MeetConstant, Join, Meet, IfAll, IfMany, JoinOwn}
-use Rattle.sets.specs.Members.{_⊑_, membersOf, countOf}
-use Rattle.sets.specs.Operations.{valueOf}
-use Rattle.sets.specs.Arguments.{argumentsOf, valueAt}
+use Rattle.sets.specs.declared.Op.the-variants.{Constant, Own, JoinConstant, MeetConstant, Join, Meet, IfAll, IfMany, JoinOwn, Except}
+use Rattle.sets.specs.Members.{digit, _⊑_, membersOf, countOf}
+use Rattle.sets.specs.Operations.{without}
+use Rattle.sets.specs.Arguments.{argumentsOf, waivedOf, valueAt}
 
 -- ⊑ is a partial order with the empty set below all, and the members in both and the join are its glb and lub
 pub record Lattice : Type 0 where
@@ -22,6 +22,10 @@ pub record Lattice : Type 0 where
   pub lub-left : (a b : ℕ) → a ⊑ bitOr a b
   pub lub-right : (a b : ℕ) → b ⊑ bitOr a b
   pub lub-least : {a b c : ℕ} → a ⊑ c → b ⊑ c → bitOr a b ⊑ c
+
+-- what operation 9 gives: each member of a that b hasn't, and no other
+abbrev pub Without : Type 0
+Without = (n a b : ℕ) → digit n (without a b) ≡ digit n a - digit n b
 
 -- the measure of a climb: it grows with a set, strictly where the set does; 64 at most
 pub record Counted : Type 0 where
@@ -38,9 +42,14 @@ pub record Compared : Type 0 where
   pub most : (a : ℕ) → countOf a ≤ 56
   pub reached : countOf (2 ^ 56 - 1) ≡ 56
 
--- each operation never loses members when what it reads gains some
+-- each operation never loses members when what it reads gains some, and what it waives stays
 abbrev pub Gains : Type 0
-Gains = (op : Op) (own : ℕ) (f g : Argument → ℕ) → ((x : Argument) → List·Memᴰ x (argumentsOf op) → f x ⊑ g x) → valueAt op own f ⊑ valueAt op own g
+Gains = (op : Op) (own : ℕ) (f g : Argument → ℕ) → ((x : Argument) → List·Memᴰ x (argumentsOf op) → f x ⊑ g x)
+    → ((x : Argument) → List·Memᴰ x (waivedOf op) → f x ≡ g x) → valueAt op own f ⊑ valueAt op own g
+
+-- what it waives it reads
+abbrev pub WaivesRead : Type 0
+WaivesRead = (op : Op) (x : Argument) → List·Memᴰ x (waivedOf op) → List·Memᴰ x (argumentsOf op)
 
 -- its value looks at nothing else than what it reads
 abbrev pub Local : Type 0
@@ -57,6 +66,7 @@ constantOf (Meet a b) = 0
 constantOf (IfAll a b c) = c
 constantOf (IfMany a b c) = c
 constantOf (JoinOwn a) = 0
+constantOf (Except a b) = 0
 
 -- a value stays a set of 64 codes where the constant, the own set and what is read are
 abbrev pub Fits : Type 0

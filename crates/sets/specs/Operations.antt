@@ -3,9 +3,9 @@ use mathlib.Core.Path.{_≡_}
 use mathlib.Core.Bool.{Bool, cond}
 use Prim.Native.Nat.{ℕ}
 use lib.Dec.{leb, eqb}
-use lib.Bits.{bitAnd, bitOr}
+use lib.Bits.{bitAnd, bitOr, bitXor}
 use Rattle.sets.specs.declared.Op.{Op}
-use Rattle.sets.specs.declared.Op.the-variants.{Constant, Own, JoinConstant, MeetConstant, Join, Meet, IfAll, IfMany, JoinOwn}
+use Rattle.sets.specs.declared.Op.the-variants.{Constant, Own, JoinConstant, MeetConstant, Join, Meet, IfAll, IfMany, JoinOwn, Except}
 use Rattle.sets.specs.declared.Equation.{Equation}
 use Rattle.sets.specs.Members.{countOf}
 
@@ -13,8 +13,13 @@ use Rattle.sets.specs.Members.{countOf}
 abbrev pub within : ℕ → ℕ → Bool
 within c a = eqb (bitAnd c a) c
 
+-- the members of a that aren't in b: a without what is in both
+abbrev pub without : ℕ → ℕ → ℕ
+without a b = bitXor a (bitAnd a b)
+
 -- the table of operations: 0 c; 1 the own set of the left node; 2 a joined with c; 3 members of a also in c; 4 a joined with b;
--- 5 members in both a and b; 6 b if every member of c is in a, else empty; 7 b if a has at least c members that count, else empty; 8 a joined with the own set
+-- 5 members in both a and b; 6 b if every member of c is in a, else empty; 7 b if a has at least c members that count, else empty; 8 a joined with the own set;
+-- 9 members of a that aren't in b
 unfoldable pub valueOf : Op → ℕ → ℕ → ℕ → ℕ
 valueOf (Constant c) own a b = c
 valueOf Own own a b = own
@@ -25,6 +30,7 @@ valueOf (Meet _ _) own a b = bitAnd a b
 valueOf (IfAll _ _ c) own a b = cond (within c a) b 0
 valueOf (IfMany _ _ c) own a b = cond (leb c (countOf a)) b 0
 valueOf (JoinOwn _) own a b = bitOr a own
+valueOf (Except _ _) own a b = without a b
 
 -- what `value` promises: of an equation, a node's own set and the values of its arguments, the equation's value
 abbrev pub ValueSays : Equation → ℕ → ℕ → ℕ → ℕ → Type 0

@@ -29,6 +29,8 @@ pub enum Op {
     IfMany(Argument, Argument, u64),
     // 8: a joined with the own set
     JoinOwn(Argument),
+    // 9: members of a that aren't in b
+    Except(Argument, Argument),
 }
 
 // What defines a set: one operation with its own arguments and constant.
@@ -68,5 +70,6 @@ pub fn value(equation: Equation, own: u64, a: u64, b: u64) -> u64
         Op::IfAll(_, _, c) => { if c & a == c { b } else { 0 } }
         Op::IfMany(_, _, c) => { if c <= count(a) { b } else { 0 } }
         Op::JoinOwn(_) => a | own,
+        Op::Except(_, _) => a ^ (a & b),
     }
 }

@@ -77,7 +77,7 @@ formed h c m =
     let f = or-false _ _ (e .0) in
     let g = or-false _ _ (f .0) in
     record {
-      known = ltb-false 8 (opNumber h) (g .0);
+      known = ltb-false 9 (opNumber h) (g .0);
       a = unused (usesA (opNumber h)) (aField h) (g .1);
       b = unused (usesB (opNumber h)) (bField h) (f .1);
       c = unused (usesC (opNumber h)) c (e .1);
@@ -88,7 +88,7 @@ pub formed-back : (h c : ℕ) → Formed h c → misformed h c ≡ false
 unfolding misformed
 formed-back h c f =
     rw (
-      le-ltb 8 (opNumber h) (f .known),
+      le-ltb 9 (opNumber h) (f .known),
       unused-back (usesA (opNumber h)) (aField h) (f .a),
       unused-back (usesB (opNumber h)) (bField h) (f .b),
       unused-back (usesC (opNumber h)) c (f .c),

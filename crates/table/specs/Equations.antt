@@ -8,7 +8,7 @@ use lib.ListN.{getD}
 use Rattle.sets.specs.declared.Argument.{Argument}
 use Rattle.sets.specs.declared.Equation.{Equation}
 use Rattle.sets.specs.declared.Op.{Op}
-use Rattle.sets.specs.declared.Op.the-variants.{Constant, Own, JoinConstant, MeetConstant, Join, Meet, IfAll, IfMany, JoinOwn}
+use Rattle.sets.specs.declared.Op.the-variants.{Constant, Own, JoinConstant, MeetConstant, Join, Meet, IfAll, IfMany, JoinOwn, Except}
 use Rattle.table.specs.Words.{headAt, constantAt}
 
 -- the operation's number, and the two arguments as one number each
@@ -29,7 +29,7 @@ abbrev pub operations : ℕ → ℕ → List Op
 operations h c =
     let a = argument (aField h) in
     let b = argument (bField h) in
-    Constant c ∷ Own ∷ JoinConstant a c ∷ MeetConstant a c ∷ Join a b ∷ Meet a b ∷ IfAll a b c ∷ IfMany a b c ∷ JoinOwn a ∷ []
+    Constant c ∷ Own ∷ JoinConstant a c ∷ MeetConstant a c ∷ Join a b ∷ Meet a b ∷ IfAll a b c ∷ IfMany a b c ∷ JoinOwn a ∷ Except a b ∷ []
 
 unfoldable pub opOf : ℕ → ℕ → Op
 opOf h c = getD (operations h c) (opNumber h) (Constant c)
@@ -40,18 +40,18 @@ equationAt t rule = record { op = opOf (headAt t rule) (constantAt t rule) }
 
 -- "Fields that an operation doesn't use are zero.": which fields an operation uses
 unfoldable pub usesA : ℕ → Bool
-usesA op = leb 2 op && leb op 8
+usesA op = leb 2 op && leb op 9
 
 unfoldable pub usesB : ℕ → Bool
-usesB op = leb 4 op && leb op 7
+usesB op = leb 4 op && leb op 7 || eqb op 9
 
 unfoldable pub usesC : ℕ → Bool
 usesC op = eqb op 0 || eqb op 2 || eqb op 3 || eqb op 6 || eqb op 7
 
--- op above 8, an unused field not zero, or op 7 with c above 56: more than there are codes that count
+-- op above 9, an unused field not zero, or op 7 with c above 56: more than there are codes that count
 unfoldable pub misformed : ℕ → ℕ → Bool
 misformed h c =
-    ltb 8 (opNumber h)
+    ltb 9 (opNumber h)
     || not (usesA (opNumber h)) && ltb 0 (aField h)
     || not (usesB (opNumber h)) && ltb 0 (bField h)
     || not (usesC (opNumber h)) && ltb 0 c

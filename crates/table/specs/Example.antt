@@ -24,13 +24,13 @@ a-sound : judgeTable tableA ≡ 0
 unfolding tableA put judgeTable first row someBelow symbolCount productionCount synthesized inherited leftOf childCount childOf hasSet occurs ruleOf headAt constantAt opNumber aField bField usesA usesB usesC misformed partOf frames misnamed refusalAt
 a-sound = refl
 
--- no symbol; 33 symbols; symbol 0 with an inherited set; a child that is no symbol; an operation 9; an argument without a set; 4 and 5 at one frame
+-- no symbol; 33 symbols; symbol 0 with an inherited set; a child that is no symbol; an operation 10; an argument without a set; 4 and 5 at one frame
 a-refused :
     (judgeTable (put tableA 0 3) ≡ 1)
     × (judgeTable (put tableA 0 8451) ≡ 1)
     × (judgeTable (put tableA 1 257) ≡ 3)
     × (judgeTable (put tableA 33 8607039488) ≡ 2)
-    × (judgeTable (put tableA 137 38654967808) ≡ 4)
+    × (judgeTable (put tableA 137 42949935104) ≡ 4)
     × (judgeTable (put tableA 137 34360066048) ≡ 5)
     × (judgeTable (put tableA 137 34360066049) ≡ 4)
 unfolding tableA put judgeTable first row someBelow symbolCount productionCount synthesized inherited leftOf childCount childOf hasSet occurs ruleOf headAt constantAt opNumber aField bField usesA usesB usesC misformed partOf frames misnamed refusalAt

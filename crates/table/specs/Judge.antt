@@ -51,7 +51,7 @@ startWrong t (symbol s) = eqb s 0 && ltb 0 (inherited t s)
 startWrong t (production p) = false
 startWrong t (equation p q k) = false
 
--- 4: op above 8, an unused field not zero, or op 7 with c above 56
+-- 4: op above 9, an unused field not zero, or op 7 with c above 56
 abbrev pub formWrong : List ℕ → Frame → Bool
 formWrong t header = false
 formWrong t (symbol s) = false

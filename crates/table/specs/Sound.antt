@@ -9,9 +9,9 @@ use Rattle.table.specs.Equations.{opNumber, aField, bField, usesA, usesB
 use Rattle.table.specs.Judge.{judgeTable}
 use Rattle.table.specs.Same.{Has}
 
--- op is at most 8, unused fields are zero, and op 7 has c at most 56
+-- op is at most 9, unused fields are zero, and op 7 has c at most 56
 pub record Formed (h constant : ℕ) : Type 0 where
-  pub known : opNumber h ≤ 8
+  pub known : opNumber h ≤ 9
   pub a : usesA (opNumber h) ≡ false → aField h ≡ 0
   pub b : usesB (opNumber h) ≡ false → bField h ≡ 0
   pub c : usesC (opNumber h) ≡ false → constant ≡ 0
@@ -33,7 +33,7 @@ pub record Sound (t : List ℕ) : Type 0 where
   pub below : (p q : ℕ) → p < productionCount t → q ≤ childCount t p → symbolAt t p q < symbolCount t
   -- "3: symbol 0 has an inherited set"
   pub start : inherited t 0 ≡ 0
-  -- 4: op above 8, an unused field not zero, or op 7 with c above 56
+  -- 4: op above 9, an unused field not zero, or op 7 with c above 56
   pub formed : (p q k : ℕ) → Has t p q k → Formed (headAt t (ruleOf p q k)) (constantAt t (ruleOf p q k))
   -- "5: an argument names no declared occurrence"
   pub named : (p q k : ℕ) → Has t p q k → Named t p (headAt t (ruleOf p q k))

@@ -60,7 +60,7 @@ fn put_production(table: &[u64; 2657], p: usize, buffer: &mut [u8], place: usize
 }
 
 fn put_equation(table: &[u64; 2657], rule: usize, buffer: &mut [u8], place: usize) -> usize
-    requires { ⌜ (rule < 1280) × ((opNumber (headAt (now table) rule) ≤ 8) × (place + 29 ≤ length (now buffer))) ⌝ }
+    requires { ⌜ (rule < 1280) × ((opNumber (headAt (now table) rule) ≤ 9) × (place + 29 ≤ length (now buffer))) ⌝ }
     ensures { λ r. ⌜ (r ≡ place + 29) × (now (buffer .exit) ≡ sets (now (buffer .entry)) place (equationText (now (table .entry)) rule)) ⌝ }
 {
     let head = 4398046511104 + head_at(table, rule);

@@ -111,7 +111,7 @@ module _ (t : List ℕ) (m : Memory) (r : Record) where
   unfolding loadCall
   load-within ns owns h =
       let c = all-exactly t m r .load ns owns .by0 .0 h .1 .1 .1 .1 in
-      rw h (all-open Load (length ns) 0 (length ns) .within (c .0) (some-node t ns owns 0 (c .1)) (omega arith))
+      rw h (all-open Load (length ns) 0 (length ns) .within (c .0) (some-node t ns owns 0 (c .1 .0)) (omega arith))
 
   replace-within : (point : ℕ) (new newOwns : List ℕ) → replaceRefusal t m r point new newOwns ≡ 0 → beyond (replaceCall t m r point new newOwns .next) ≡ false
   unfolding replaceCall
@@ -120,7 +120,7 @@ module _ (t : List ℕ) (m : Memory) (r : Record) where
       let p : part t (nodesOf m (r .nodes)) point ≤ min (r .nodes) (length (m .productions)) - point =
       rw (length-take (r .nodes) (m .productions)) at (part-most t (nodesOf m (r .nodes)) point) in
       let q : point < r .nodes = c .0 in
-      let n : 0 < length new = some-node t new newOwns _ (c .1 .1) in
+      let n : 0 < length new = some-node t new newOwns _ (c .1 .1 .0) in
       rw h (all-open Replacement (r .nodes - part t (nodesOf m (r .nodes)) point + length new) point (length new) .within (c .1 .0) (omega arith) (omega arith))
 
 pub all-open-within : AllOpenWithin

@@ -15,14 +15,19 @@ use Rattle.circles.specs.Ranked.{ranked}
 use Rattle.circles.specs.Laws as laws
 use Rattle.circles.specs.Laws.{declaredCount}
 use Rattle.circles.proofs.Sequence.{ordered}
-use Rattle.climb.specs.System.{graphOf, Lawful, Least}
+use Rattle.climb.specs.System.{graphOf}
 use Rattle.climb.specs.Inside.{Small}
-use Rattle.climb.specs.Circuit.{sumTo, circleAt, Ranked, Kept}
+use Rattle.climb.specs.Circuit.{sumTo, circleAt, Ranked, Few, LawfulCircles, Kept}
+use Rattle.climb.specs.ByRank.{LeastByRank}
+use Rattle.climb.specs.Restrict.{Solved}
+use Rattle.climb.specs.Waived.{LawfulBut}
 use Rattle.climb.specs.Memory.{at}
 use Rattle.climb.proofs.Lists.{either}
-use Rattle.wire.specs.Instances.{declared, system}
+use Rattle.wire.specs.Instances.{declared, system, waived}
 use Rattle.wire.specs.Laws.{Words}
+use Rattle.wire.specs.Waivers.{Free}
 use Rattle.wire.proofs.Lawful.{tree-lawful, few-instances}
+use Rattle.wire.proofs.Waivers.{circles-lawful}
 use Rattle.update.specs.declared.Record.{Record}
 use Rattle.update.specs.Records.{isOpen, beyond, shut}
 use Rattle.update.specs.Memories.{Memory}
@@ -55,33 +60,37 @@ unfolding sumTo
 sums-same f zero = refl
 sums-same f (suc n) = rw (sums-same f n)
 
--- a sound table and a sound tree with their words
+-- a sound table and a sound tree without a waiver inside a circle, with their words
 pub record Sound (t ns owns : List ℕ) : Type 0 where
   pub words : Words t
   pub owned : Words owns
   pub table : judgeTable t ≡ 0
   pub tree : judgeTree t ns owns 0 ≡ 0
   pub few : length ns ≤ 512
+  pub free : Free t ns
 
 module _ {t ns owns : List ℕ} (q : Sound t ns owns) where
-  pub lawful : Lawful (system t ns owns)
-  lawful = tree-lawful t ns owns (q .table) (tree-sound t ns owns 0 (q .tree)) (q .words) (q .owned)
+  pub but-waived : LawfulBut (system t ns owns) (waived t ns)
+  but-waived = tree-lawful t ns owns (q .table) (tree-sound t ns owns 0 (q .tree)) (q .words) (q .owned)
+
+  pub lawful : LawfulCircles (system t ns owns) (circles t ns owns)
+  lawful = circles-lawful t ns owns (q .table) (tree-sound t ns owns 0 (q .tree)) (q .few) (q .words) (q .owned) (q .free)
 
   counted : declaredCount (graphOf (system t ns owns)) ≤ 4092
   unfolding declaredCount
   counted = few-instances t ns (q .table) (tree-sound t ns owns 0 (q .tree)) (q .few)
 
+  sequence : laws.Ordered (graphOf (system t ns owns)) (circles t ns owns)
+  sequence = ordered (graphOf (system t ns owns)) (record { bound = but-waived .bound; closed = but-waived .closed }) (omega (arith, q .few))
+
   pub in-rank : Ranked (system t ns owns) (circles t ns owns)
-  in-rank =
-      let o = ordered (graphOf (system t ns owns)) (record { bound = lawful .bound; closed = lawful .closed }) (omega (arith, q .few)) in
-      record {
-        apart = o .apart;
-        reads = o .reads;
-        declared = o .declared;
-        covers = o .covers;
-        count = le-trans (o .count) counted;
-        total = omega (arith, sums-same (λ i. length (circleAt (circles t ns owns) i)) (length (circles t ns owns)), o .total, counted);
-      }
+  in-rank = record { apart = sequence .apart; reads = sequence .reads; declared = sequence .declared; covers = sequence .covers }
+
+  pub few-circles : Few (circles t ns owns)
+  few-circles = record {
+    count = le-trans (sequence .count) counted;
+    total = omega (arith, sums-same (λ i. length (circleAt (circles t ns owns) i)) (length (circles t ns owns)), sequence .total, counted);
+  }
 
 -- an update just opened: sets and before values are the same
 pub record Ready (t ns owns : List ℕ) (r : Record) (m : Memory) : Type 0 where
@@ -101,9 +110,16 @@ pub record Ready (t ns owns : List ℕ) (r : Record) (m : Memory) : Type 0 where
   pub kept : Kept (system t ns owns) (circles t ns owns) (sownOf r) (at (m .sets))
 
 pub begins : {t ns owns : List ℕ} {r : Record} {m : Memory} → Ready t ns owns r m → Begins (system t ns owns) (circles t ns owns) r (m .sets)
-begins q = record { lawful = lawful (q .sound); ranked = in-rank (q .sound); fresh = q .fresh; small = q .small; room = omega (arith, q .sound .few, q .roomy .sets) }
+begins q = record {
+  lawful = lawful (q .sound);
+  ranked = in-rank (q .sound);
+  few = few-circles (q .sound);
+  fresh = q .fresh;
+  small = q .small;
+  room = λ x d. omega (arith, but-waived (q .sound) .bound x d, q .sound .few, q .roomy .sets);
+}
 
--- a finished update: the sets are the least
+-- a finished update: the sets are the least by rank
 pub record Settled (t ns owns : List ℕ) (r : Record) (m : Memory) : Type 0 where
   pub sound : Sound t ns owns
   pub closed : r ≡ shut true (length ns)
@@ -114,4 +130,7 @@ pub record Settled (t ns owns : List ℕ) (r : Record) (m : Memory) : Type 0 whe
   pub small : Small (at (m .sets))
   pub empty : (x : ℕ) → declared t ns x ≡ false → at (m .sets) x ≡ 0
   pub emptied : (x : ℕ) → declared t ns x ≡ false → at (m .before) x ≡ 0
-  pub least : Least (system t ns owns) (at (m .sets))
+  pub least : LeastByRank (system t ns owns) (circles t ns owns) (at (m .sets))
+
+pub solved : {t ns owns : List ℕ} {r : Record} {m : Memory} → Settled t ns owns r m → Solved (system t ns owns) (circles t ns owns) (at (m .sets))
+solved q = record { lawful = lawful (q .sound); ranked = in-rank (q .sound); small = q .small; least = q .least }

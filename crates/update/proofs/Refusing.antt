@@ -3,32 +3,63 @@ use mathlib.Core.Path.{_≡_, refl, sym, ap, _∙_}
 use mathlib.Core.List.{List, [], _∷_, _++_, List·Memᴰ·head, List·Memᴰ·tail, List·Memᴰ·not-nil}
 use Prim.Native.Nat.{ℕ, zero, suc, _<_}
 use native.Mathlib.Omega.{arith}
+use mathlib.Core.Bool.{false}
+use mathlib.Core.Logic.{_↔_}
 use lib.ListN.{length, getD}
+use lib.Seq.{length-take-le}
 use Rattle.table.specs.First.{first}
 use Rattle.table.specs.Words.{leftOf}
 use Rattle.table.proofs.FirstLaws.{or-left, or-right, or-none}
+use Rattle.tree.specs.Tree.{judgeNodes, judgeTree}
+use Rattle.tree.proofs.Replace.{replacement}
 use Rattle.climb.specs.Memory.{at}
 use Rattle.wire.specs.Instances.{declared}
+use Rattle.wire.specs.Replaced.{nodesAfter}
+use Rattle.wire.specs.Waivers.{waives}
+use Rattle.wire.proofs.Waivers.{every-tree-waives}
 use Rattle.circles.specs.Graph.{_∈_}
 use Rattle.update.specs.declared.Record.{Record}
 use Rattle.update.specs.Records.{isOpen, beyond}
 use Rattle.update.specs.Memories.{Memory, nodesOf, ownsOf}
-use Rattle.update.specs.Refusals.{firstRefusal, short, loadRefusal, passes, replaceRefusal, stepRefusal, readRefusal, dumpRefusal}
+use Rattle.update.specs.Refusals.{firstRefusal, short, heldRefusal, loadRefusal, passes, nodesThen, replaceRefusal, stepRefusal, readRefusal, dumpRefusal}
 use Rattle.update.specs.Refused.{LoadGives, ReplaceGives, StepGives, ReadGives, DumpGives, AllGivenExactly, Refuses, RefusesExactly, OneRefusal, NoneRefuses, Leaves, ReadLeaves, AllLeave, replacedNodes}
 use Rattle.update.specs.Calls.{refused, said, unless as unless′, is-open, loadCall, replaceCall, stepCall, runCall, unlessRead, readCall}
+use Rattle.update.proofs.Within.{short-means, beyond-means}
+use Rattle.update.proofs.Ready.{tree-sound}
 use Rattle.update.proofs.Checks.{Check, if, unless, above, outside, table, tree, number, table-number, tree-number, nothing, among}
 
+-- ---- conditions that say the same
+
+then : {A B C : Type 0} → A ↔ B → B ↔ C → A ↔ C
+then f g = (λ a. g .0 (f .0 a), λ c. f .1 (g .1 c))
+
+-- where P holds
+under : {P A B : Type 0} → (P → A ↔ B) → (P × A) ↔ (P × B)
+under f = (λ h. (h .0, f (h .0) .0 (h .1)), λ h. (h .0, f (h .0) .1 (h .1)))
+
+-- ---- call by call
+
 module _ (t : List ℕ) (m : Memory) (r : Record) where
+  -- the tree that a replacement would leave is sound
+  then-sound : (point : ℕ) (new newOwns : List ℕ) → short m ≡ false → beyond r ≡ false → heldRefusal t m r ≡ 0 → point < r .nodes
+      → judgeTree t new newOwns (leftOf t (getD (nodesOf m (r .nodes)) point 0)) ≡ 0 → judgeNodes t (nodesAfter t (nodesOf m (r .nodes)) new point) (0 ∷ []) ≡ 0
+  then-sound point new newOwns s b h i f =
+      let n : length (nodesOf m (r .nodes)) ≡ r .nodes =
+      length-take-le (r .nodes) (m .productions) (omega (arith, short-means m .0 s .productions, beyond-means r .0 b .nodes)) in
+      replacement t (nodesOf m (r .nodes)) new 0 point (tree-sound t (nodesOf m (r .nodes)) (ownsOf m (r .nodes)) 0 h) (omega (arith, i, n))
+      (tree-sound t new newOwns (leftOf t (getD (nodesOf m (r .nodes)) point 0)) f) .sound
+
   -- the held tree's check
   abbrev held : Check
   held = tree t (nodesOf m (r .nodes)) (ownsOf m (r .nodes)) 0
 
   abbrev loads : List ℕ → List ℕ → List Check
-  loads ns owns = if (short m) 15 ∷ table t ∷ if (beyond r) 11 ∷ if (isOpen (r .«open»)) 10 ∷ above 512 (length ns) 8 ∷ tree t ns owns 0 ∷ []
+  loads ns owns = if (short m) 15 ∷ table t ∷ if (beyond r) 11 ∷ if (isOpen (r .«open»)) 10 ∷ above 512 (length ns) 8 ∷ tree t ns owns 0 ∷ if (waives t ns) 21 ∷ []
 
   abbrev replaces : ℕ → List ℕ → List ℕ → List Check
   replaces point new newOwns = if (short m) 15 ∷ table t ∷ if (beyond r) 11 ∷ if (isOpen (r .«open»)) 10 ∷ unless (r .held) 16 ∷ held
-      ∷ outside (r .nodes) point 9 ∷ above 512 (replacedNodes t m r point new) 8 ∷ tree t new newOwns (leftOf t (getD (nodesOf m (r .nodes)) point 0)) ∷ []
+      ∷ outside (r .nodes) point 9 ∷ above 512 (replacedNodes t m r point new) 8 ∷ tree t new newOwns (leftOf t (getD (nodesOf m (r .nodes)) point 0))
+      ∷ if (waives t (nodesThen t m r point new)) 21 ∷ []
 
   abbrev steps : List Check
   steps = if (short m) 15 ∷ table t ∷ if (beyond r) 11 ∷ unless (r .held) 16 ∷ held ∷ unless (isOpen (r .«open»)) 17 ∷ []
@@ -44,7 +75,10 @@ module _ (t : List ℕ) (m : Memory) (r : Record) where
     by10 = number l refl 10 refl;
     by8 = number l refl 8 refl;
     by6or7 = tree-number l refl;
-    by0 = nothing l refl;
+    by21 = then (number l refl 21 refl)
+        (under (λ s. under (λ g. under (λ b. under (λ o. under (λ f. under (λ e. every-tree-waives t ns g (tree-sound t ns owns 0 e) .some)))))));
+    by0 = then (nothing l refl)
+        (under (λ s. under (λ g. under (λ b. under (λ o. under (λ f. under (λ e. every-tree-waives t ns g (tree-sound t ns owns 0 e) .none)))))));
     among = among l;
   }
 
@@ -58,7 +92,12 @@ module _ (t : List ℕ) (m : Memory) (r : Record) where
     by6or7 = tree-number l refl;
     by9 = number l refl 9 refl;
     by8 = number l refl 8 refl;
-    by0 = nothing l refl;
+    by21 = then (number l refl 21 refl)
+        (under (λ s. under (λ g. under (λ b. under (λ o. under (λ h. under (λ e. under (λ i. under (λ f. under (λ n.
+        every-tree-waives t (nodesAfter t (nodesOf m (r .nodes)) new point) g (then-sound point new newOwns s b e i n) .some))))))))));
+    by0 = then (nothing l refl)
+        (under (λ s. under (λ g. under (λ b. under (λ o. under (λ h. under (λ e. under (λ i. under (λ f. under (λ n.
+        every-tree-waives t (nodesAfter t (nodesOf m (r .nodes)) new point) g (then-sound point new newOwns s b e i n) .none))))))))));
     among = among l;
   }
 

@@ -13,7 +13,7 @@ use Rattle.climb.specs.Circuit.{sumTo, circleAt, dueOf, afterOf, workedOf, roun
 use Rattle.climb.specs.Memory.{at}
 use Rattle.climb.specs.CircuitLaws.{Limits}
 use Rattle.climb.proofs.Sums.{sum-mono}
-use Rattle.climb.proofs.Finishing.{final-least, all-final, load-most, load-kept, all-limits, lawful-circles}
+use Rattle.climb.proofs.Finishing.{final-least, all-final, load-most, load-kept, all-limits}
 use Rattle.update.specs.declared.Record.{Record}
 use Rattle.update.specs.Records.{isLoad, shut, working}
 use Rattle.update.specs.Within.{WithinLimits}
@@ -108,7 +108,7 @@ pauses S R r before B n h = pauses-at S R r before B n h
 pub finishes : AllFinish
 finishes S R r before B n h =
     let d = done-at S R r before B n h in
-    let f = all-final S R (lawful-circles S (B .lawful) R) (B .ranked) (sownOf r) (at before) in
+    let f = all-final S R (B .lawful) (B .ranked) (sownOf r) (at before) in
     record {
       rounds = omega (arith, d .rounds);
       ending = d .ending;
@@ -159,7 +159,7 @@ runs-on S R before (suc n) k r s h =
 pub least-at-done : LeastAtDone
 least-at-done S R r before B k n h =
     let e : afterOf S R (sownOf r) (at before) (length R) ≡ at (ranOf S R r before n .sets) = sym (finishes S R r before B n h .value) in
-    rw e at (final-least S (B .lawful) R (B .ranked) (sownOf r) (at before) (B .small) k)
+    rw e at (final-least S R (B .lawful) (B .ranked) (sownOf r) (at before) (B .small) k)
 
 load-sown : (r : Record) → isLoad (r .«open») ≡ true → sownOf r ≡ (λ x. true)
 unfolding sownOf
@@ -169,20 +169,20 @@ pub load-is-kept : LoadIsKept
 load-is-kept S R r b h = rw (load-sown r h) (load-kept S R b)
 
 pub load-evaluates : LoadEvaluates
-load-evaluates S R r t b b′ B B′ k h = rw (load-sown t h) (load-most S (B .lawful) R (B .ranked) (sownOf r) (at b) (at b′) (B .small) (B′ .small) k)
+load-evaluates S R r t b b′ B B′ k h = rw (load-sown t h) (load-most S R (B .lawful) (B .ranked) (sownOf r) (at b) (at b′) (B .small) (B′ .small) k)
 
 -- ---- the limits
 
 module _ (S : System) (R : List (List ℕ)) (r : Record) (before : List ℕ) (B : Begins S R r before) where
   limits : Limits S R (sownOf r) (at before)
-  limits = all-limits S R (lawful-circles S (B .lawful) R) (B .ranked) (sownOf r) (at before) (B .small)
+  limits = all-limits S R (B .lawful) (B .few) (sownOf r) (at before) (B .small)
 
   within-at : (i k : ℕ) (v : Assignment) → i ≤ length R → Phase S R (sownOf r) (at before) i k v → WithinLimits r → WithinLimits (recordAt S R r before i k)
   within-at i k v n g w = record {
     nodes = w .nodes;
     point = w .point;
     part = w .part;
-    rank = omega (arith, B .ranked .count);
+    rank = omega (arith, B .few .count);
     round = few k g;
     circles = le-trans c (limits .circles);
     evaluations = evals k g;

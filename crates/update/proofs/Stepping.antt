@@ -10,19 +10,19 @@ use lib.Dec.{eqb, ltb}
 use borrow.Author.Tests.{eqb-true, eq-eqb, ne-eqb, eqb-false, lt-ltb, le-ltb, ltb-true, ltb-false}
 use lib.ListN.{length}
 use Rattle.circles.specs.Ranked.{member, loneOf}
-use Rattle.climb.specs.System.{Assignment, System, graphOf, Lawful}
+use Rattle.climb.specs.System.{Assignment, System, graphOf}
 use Rattle.climb.specs.Climb.{stage, stillOf, roundsOf}
+use Rattle.climb.specs.Inside.{GainingIn}
 use Rattle.climb.specs.Laws.{Climbs, Shuts}
 use Rattle.climb.specs.Circuit.{circleAt, dueOf, afterOf, workedOf, roundsAt, circlesTo, roundsTo, evaluationsTo}
 use Rattle.climb.specs.CircuitLaws.{Passed, Limits}
 use Rattle.climb.specs.Memory.{at, emptyOn, roundOn, Within}
 use Rattle.climb.proofs.Lists.{either, or-false-is, Found, least-from}
-use Rattle.climb.proofs.Systems.{gains-inside}
 use Rattle.climb.proofs.Stages.{stage-out}
 use Rattle.climb.proofs.Rounds.{still-means}
 use Rattle.climb.proofs.Sums.{sum-mono}
 use Rattle.climb.proofs.Working.{due-agree, after-worked, climbs-at, adds, passed}
-use Rattle.climb.proofs.Finishing.{all-limits, lawful-circles}
+use Rattle.climb.proofs.Finishing.{all-limits}
 use Rattle.climb.proofs.Storing.{length-stores, in-memory}
 use Rattle.update.specs.declared.Record.{Record}
 use Rattle.update.specs.Records.{shut, working}
@@ -80,7 +80,7 @@ rounded S C v k s from c l e p a h = record {
   places = rw e (length-stores C from (S .eval (at from)) ∙ p);
 }
 
-module _ (S : System) (L : Lawful S) (C : List ℕ) (v : Assignment) (c : Climbs S C v) where
+module _ (S : System) (C : List ℕ) (g : GainingIn S (member C)) (v : Assignment) (c : Climbs S C v) where
   -- a lone circle closes whatever it finds
   lone-closes : (k : ℕ) (from to : List ℕ) → loneOf (graphOf S) C ≡ true → closedOf S C from to ≡ loneOf (graphOf S) C || stillOf S C v k
   unfolding closedOf
@@ -100,7 +100,7 @@ module _ (S : System) (L : Lawful S) (C : List ℕ) (v : Assignment) (c : Climbs
   first-round : (s : List ℕ) → 0 < roundsOf S C v → Within C s → at s ≡ v → Rounded S C v 0 s
   first-round s l w e = ⊎-elim
       (λ (h : loneOf (graphOf S) C ≡ true). rounded S C v 0 s s c l (from-lone S C s h) refl
-      (in-memory S C v s w .lone (gains-inside S (L .gaining) (member C)) h e) (lone-closes 0 s (roundOn S C s) h))
+      (in-memory S C v s w .lone g h e) (lone-closes 0 s (roundOn S C s) h))
       (λ (h : loneOf (graphOf S) C ≡ false). from-stage 0 s (emptyOn C s) l (from-first S C s h) (length-stores C s (λ x. 0))
       (λ x m. rw (length-stores C s (λ x. 0)) (w x m)) (in-memory S C v s w .emptied e))
       (either (loneOf (graphOf S) C))
@@ -140,15 +140,15 @@ module _ (S : System) (R : List (List ℕ)) (r : Record) (before : List ℕ) (B 
   after = afterOf S R (sownOf r) (at before)
 
   climb : (i : ℕ) → Climbs S (circleAt R i) (after i)
-  climb i = climbs-at S R sown b (lawful-circles S (B .lawful) R) (B .small) i
+  climb i = climbs-at S R sown b (B .lawful) (B .small) i
 
   within : (i : ℕ) (s : List ℕ) → length s ≡ length before → Within (circleAt R i) s
-  within i s p x m = omega (arith, B .lawful .bound x (B .ranked .declared i x m), B .room)
+  within i s p x m = omega (arith, B .room x (B .ranked .declared i x m))
 
   phase-round : (i j : ℕ) (s : List ℕ) → length s ≡ length before → j < roundsAt S R sown b i → Phase S R sown b i j (at s) → Rounded S (circleAt R i) (after i) j s
   unfolding roundsAt
-  phase-round i zero s p l (between e) = first-round S (B .lawful) (circleAt R i) (after i) (climb i) s l (within i s p) e
-  phase-round i (suc j) s p l (climbing g w h f e) = later-round S (B .lawful) (circleAt R i) (after i) (climb i) j s l (within i s p) e
+  phase-round i zero s p l (between e) = first-round S (circleAt R i) (B .lawful i .gaining) (after i) (climb i) s l (within i s p) e
+  phase-round i (suc j) s p l (climbing g w h f e) = later-round S (circleAt R i) (B .lawful i .gaining) (after i) (climb i) j s l (within i s p) e
 
   round-flag : (i j : ℕ) (s : List ℕ) → length s ≡ length before → j < roundsAt S R sown b i → Phase S R sown b i j (at s)
       → closedOf S (circleAt R i) (fromOf S (circleAt R i) (suc j) s) (toOf S (circleAt R i) (fromOf S (circleAt R i) (suc j) s)) ≡ eqb (suc j) (roundsAt S R sown b i)
@@ -200,7 +200,7 @@ module _ (S : System) (R : List (List ℕ)) (r : Record) (before : List ℕ) (B 
       flag = round-flag i j s p f g
 
       limits : Limits S R sown b
-      limits = all-limits S R (lawful-circles S (B .lawful) R) (B .ranked) sown b (B .small)
+      limits = all-limits S R (B .lawful) (B .few) sown b (B .small)
 
       few : min (e + length C) 1073745920 ≡ e + length C
       few = min-eq-left (omega (arith, limits .midst i j l w f))
@@ -315,7 +315,7 @@ module _ (S : System) (R : List (List ℕ)) (r : Record) (before : List ℕ) (B 
       let c = circlesTo S R sown b i in
       let e = evaluationsTo S R sown b i + length (circleAt R i) * suc k in
       let q : dueFrom S R (working r i (suc k) c e) before s ≡ i = stays-due i (suc k) c e s (suc k) w v in
-      let h : suc (suc k) ≤ 262145 = omega (arith, all-limits S R (lawful-circles S (B .lawful) R) (B .ranked) sown b (B .small) .rounds i l) in
+      let h : suc (suc k) ≤ 262145 = omega (arith, all-limits S R (B .lawful) (B .few) sown b (B .small) .rounds i l) in
       inl (rw (step-round i (suc k) c e s i (suc (suc k)) q l (round-next r i (suc k) c e h))
       (going t i (suc k) i (suc k) c e s l w f p (climbing l w o f v) ht refl refl))
 

@@ -6,25 +6,27 @@ use Prim.Native.Nat.{ℕ, suc, _+_, _*_, _≤_, _<_}
 use lib.Dec.{eqb}
 use lib.ListN.{length, getD}
 use Rattle.circles.specs.Ranked.{member, loneOf}
-use Rattle.climb.specs.System.{Assignment, System, graphOf, Lawful, Least}
+use Rattle.climb.specs.System.{Assignment, System, graphOf}
 use Rattle.climb.specs.Climb.{stage, roundsOf}
 use Rattle.climb.specs.Inside.{Small}
-use Rattle.climb.specs.Circuit.{circleAt, dueOf, afterOf, workedOf, roundsAt, circlesTo, roundsTo, evaluationsTo, Ranked, Kept}
+use Rattle.climb.specs.Circuit.{circleAt, dueOf, afterOf, workedOf, roundsAt, circlesTo, roundsTo, evaluationsTo, Ranked, Few, LawfulCircles, Kept}
+use Rattle.climb.specs.ByRank.{LeastByRank}
 use Rattle.climb.specs.Memory.{at}
 use Rattle.update.specs.declared.Record.{Record}
 use Rattle.update.specs.Records.{isLoad, beyond, shut, working}
 use Rattle.update.specs.Within.{Fresh}
 use Rattle.update.specs.Steps.{sownOf, changedOf, round, Made, stepOf, paused, finished, Ran, runOf}
 
--- ---- an update just opened, over a lawful system S and its circles R by rank
+-- ---- an update just opened, over a system S and its circles R by rank, each of them lawful
 
 -- "A record just opened has rank and round 0"; the sets are the before values, and have their places
 pub record Begins (S : System) (R : List (List ℕ)) (r : Record) (before : List ℕ) : Type 0 where
-  pub lawful : Lawful S
+  pub lawful : LawfulCircles S R
   pub ranked : Ranked S R
+  pub few : Few R
   pub fresh : Fresh r
   pub small : Small (at before)
-  pub room : S .size ≤ length before
+  pub room : (x : ℕ) → S .declared x ≡ true → x < length before
 
 -- what a run with a budget of n rounds comes to from there
 abbrev pub ranOf : System → List (List ℕ) → Record → List ℕ → ℕ → Ran
@@ -141,11 +143,11 @@ RunsOn = (S : System) (R : List (List ℕ)) (before : List ℕ) (n k : ℕ) (r :
     let b = runOf S R before k (a .next) (a .sets) in
     runOf S R before (n + k) r s ≡ record { rounds = a .rounds + b .rounds; ending = b .ending; next = b .next; sets = b .sets }
 
--- ---- demand 2: "every set is the least consistent one"
+-- ---- demand 2: circle after circle by rank, each has the least sets that are consistent given those before it
 
 abbrev pub LeastAtDone : Type 0
 LeastAtDone = (S : System) (R : List (List ℕ)) (r : Record) (before : List ℕ) → Begins S R r before → Kept S R (sownOf r) (at before)
-    → (n : ℕ) → wholeOf S R r before < n → Least S (at (ranOf S R r before n .sets))
+    → (n : ℕ) → wholeOf S R r before < n → LeastByRank S R (at (ranOf S R r before n .sets))
 
 -- "in a load, all" are sown: nothing is asked of its before values
 abbrev pub LoadIsKept : Type 0

@@ -10,6 +10,8 @@ use Rattle.table.specs.Judge.{judgeTable}
 use Rattle.tree.specs.Tree.{judgeTree}
 use Rattle.tree.specs.Replace.{part}
 use Rattle.wire.specs.Instances.{declared}
+use Rattle.wire.specs.Replaced.{nodesAfter}
+use Rattle.wire.specs.Waivers.{waives}
 use Rattle.update.specs.declared.Record.{Record}
 use Rattle.update.specs.Records.{nodesMost, isOpen, beyond}
 use Rattle.update.specs.Memories.{Memory, nodesOf, ownsOf}
@@ -30,20 +32,26 @@ short m = ltb (length (m .productions)) 512 || ltb (length (m .owns)) 512 || ltb
 abbrev pub heldRefusal : List ℕ → Memory → Record → ℕ
 heldRefusal t m r = judgeTree t (nodesOf m (r .nodes)) (ownsOf m (r .nodes)) 0
 
--- "load 15, 1 to 5, 11, 10, 8, 6/7."
+-- "load 15, 1 to 5, 11, 10, 8, 6/7.", and 21 last of all
 unfoldable pub loadRefusal : List ℕ → Memory → Record → List ℕ → List ℕ → ℕ
 loadRefusal t m r ns owns =
-    firstRefusal (when (short m) 15 ∷ judgeTable t ∷ when (beyond r) 11 ∷ when (isOpen (r .«open»)) 10 ∷ when (ltb nodesMost (length ns)) 8 ∷ judgeTree t ns owns 0 ∷ [])
+    firstRefusal (when (short m) 15 ∷ judgeTable t ∷ when (beyond r) 11 ∷ when (isOpen (r .«open»)) 10 ∷ when (ltb nodesMost (length ns)) 8 ∷ judgeTree t ns owns 0
+    ∷ when (waives t ns) 21 ∷ [])
 
 -- "8: the tree would pass 512 nodes": with the new part in the place of r's subtree
 unfoldable pub passes : List ℕ → Memory → Record → ℕ → List ℕ → Bool
 passes t m r point new = ltb nodesMost (r .nodes - part t (nodesOf m (r .nodes)) point + length new)
 
--- "Replacement 15, 1 to 5, 11, 10, 16, held tree 6/7, 9, 8, new part 6/7."
+-- the tree that a replacement would leave
+abbrev pub nodesThen : List ℕ → Memory → Record → ℕ → List ℕ → List ℕ
+nodesThen t m r point new = nodesAfter t (nodesOf m (r .nodes)) new point
+
+-- "Replacement 15, 1 to 5, 11, 10, 16, held tree 6/7, 9, 8, new part 6/7.", and 21 last of all, of the tree that it would leave
 unfoldable pub replaceRefusal : List ℕ → Memory → Record → ℕ → List ℕ → List ℕ → ℕ
 replaceRefusal t m r point new newOwns =
     firstRefusal (when (short m) 15 ∷ judgeTable t ∷ when (beyond r) 11 ∷ when (isOpen (r .«open»)) 10 ∷ when (not (r .held)) 16 ∷ heldRefusal t m r
-    ∷ when (leb (r .nodes) point) 9 ∷ when (passes t m r point new) 8 ∷ judgeTree t new newOwns (leftOf t (getD (nodesOf m (r .nodes)) point 0)) ∷ [])
+    ∷ when (leb (r .nodes) point) 9 ∷ when (passes t m r point new) 8 ∷ judgeTree t new newOwns (leftOf t (getD (nodesOf m (r .nodes)) point 0))
+    ∷ when (waives t (nodesThen t m r point new)) 21 ∷ [])
 
 -- "Step and run 15, 1 to 5, 11, 16, 6/7, 17."
 unfoldable pub stepRefusal : List ℕ → Memory → Record → ℕ

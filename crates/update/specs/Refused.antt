@@ -12,6 +12,8 @@ use Rattle.tree.specs.Replace.{part}
 use Rattle.circles.specs.Graph.{_∈_}
 use Rattle.circles.specs.Ranked.{member}
 use Rattle.wire.specs.Instances.{declared}
+use Rattle.wire.specs.Replaced.{nodesAfter}
+use Rattle.wire.specs.Waivers.{Waiver, Free}
 use Rattle.update.specs.declared.Record.{Record}
 use Rattle.update.specs.Records.{isOpen, beyond}
 use Rattle.update.specs.Memories.{Memory, nodesOf}
@@ -66,17 +68,18 @@ pub record FirstGives (t : List ℕ) (m : Memory) (r : Record) (given : ℕ) : T
   pub by1to5 : (n : ℕ) → 1 ≤ n → n ≤ 5 → (given ≡ n) ↔ (short m ≡ false and judgeTable t ≡ n)
   pub by11 : (given ≡ 11) ↔ (short m ≡ false and judgeTable t ≡ 0 and beyond r ≡ true)
 
--- "load 15, 1 to 5, 11, 10, 8, 6/7."
+-- "load 15, 1 to 5, 11, 10, 8, 6/7.", then 21
 pub record LoadGives (t : List ℕ) (m : Memory) (r : Record) (ns owns : List ℕ) (given : ℕ) : Type 0 where
   pub by15 : (given ≡ 15) ↔ (short m ≡ true)
   pub early : FirstGives t m r given
   pub by10 : (given ≡ 10) ↔ sound t m r (isOpen (r .«open») ≡ true)
   pub by8 : (given ≡ 8) ↔ sound t m r (isOpen (r .«open») ≡ false and 512 < length ns)
   pub by6or7 : (n : ℕ) → 6 ≤ n → n ≤ 7 → (given ≡ n) ↔ sound t m r (isOpen (r .«open») ≡ false and length ns ≤ 512 and judgeTree t ns owns 0 ≡ n)
-  pub by0 : (given ≡ 0) ↔ sound t m r (isOpen (r .«open») ≡ false and length ns ≤ 512 and judgeTree t ns owns 0 ≡ 0)
-  pub among : member (0 ∷ 15 ∷ 1 ∷ 2 ∷ 3 ∷ 4 ∷ 5 ∷ 11 ∷ 10 ∷ 8 ∷ 6 ∷ 7 ∷ []) given ≡ true
+  pub by21 : (given ≡ 21) ↔ sound t m r (isOpen (r .«open») ≡ false and length ns ≤ 512 and judgeTree t ns owns 0 ≡ 0 and Waiver t ns)
+  pub by0 : (given ≡ 0) ↔ sound t m r (isOpen (r .«open») ≡ false and length ns ≤ 512 and judgeTree t ns owns 0 ≡ 0 and Free t ns)
+  pub among : member (0 ∷ 15 ∷ 1 ∷ 2 ∷ 3 ∷ 4 ∷ 5 ∷ 11 ∷ 10 ∷ 8 ∷ 6 ∷ 7 ∷ 21 ∷ []) given ≡ true
 
--- "Replacement 15, 1 to 5, 11, 10, 16, held tree 6/7, 9, 8, new part 6/7."
+-- "Replacement 15, 1 to 5, 11, 10, 16, held tree 6/7, 9, 8, new part 6/7.", then 21
 pub record ReplaceGives (t : List ℕ) (m : Memory) (r : Record) (point : ℕ) (new newOwns : List ℕ) (given : ℕ) : Type 0 where
   pub by15 : (given ≡ 15) ↔ (short m ≡ true)
   pub early : FirstGives t m r given
@@ -86,8 +89,11 @@ pub record ReplaceGives (t : List ℕ) (m : Memory) (r : Record) (point : ℕ) (
       ⊎ (heldRefusal t m r ≡ 0 and point < r .nodes and replacedNodes t m r point new ≤ 512 and newRefusal t m r point new newOwns ≡ n)))
   pub by9 : (given ≡ 9) ↔ atRest t m r (r .nodes ≤ point)
   pub by8 : (given ≡ 8) ↔ atRest t m r (point < r .nodes and 512 < replacedNodes t m r point new)
-  pub by0 : (given ≡ 0) ↔ atRest t m r (point < r .nodes and replacedNodes t m r point new ≤ 512 and newRefusal t m r point new newOwns ≡ 0)
-  pub among : member (0 ∷ 15 ∷ 1 ∷ 2 ∷ 3 ∷ 4 ∷ 5 ∷ 11 ∷ 10 ∷ 16 ∷ 6 ∷ 7 ∷ 9 ∷ 8 ∷ 6 ∷ 7 ∷ []) given ≡ true
+  pub by21 : (given ≡ 21) ↔ atRest t m r (point < r .nodes and replacedNodes t m r point new ≤ 512 and newRefusal t m r point new newOwns ≡ 0
+      and Waiver t (nodesAfter t (nodesOf m (r .nodes)) new point))
+  pub by0 : (given ≡ 0) ↔ atRest t m r (point < r .nodes and replacedNodes t m r point new ≤ 512 and newRefusal t m r point new newOwns ≡ 0
+      and Free t (nodesAfter t (nodesOf m (r .nodes)) new point))
+  pub among : member (0 ∷ 15 ∷ 1 ∷ 2 ∷ 3 ∷ 4 ∷ 5 ∷ 11 ∷ 10 ∷ 16 ∷ 6 ∷ 7 ∷ 9 ∷ 8 ∷ 6 ∷ 7 ∷ 21 ∷ []) given ≡ true
 
 -- "Step and run 15, 1 to 5, 11, 16, 6/7, 17."
 pub record StepGives (t : List ℕ) (m : Memory) (r : Record) (given : ℕ) : Type 0 where

@@ -5,6 +5,7 @@ use crate::growth::{end_of, grow, is_sound, symbol_of, Node};
 use crate::rules::Rules;
 use crate::session::Size;
 use crate::text::Text;
+use crate::waivers;
 
 const NODES: usize = 512;
 
@@ -18,31 +19,42 @@ struct Desk<'a> {
 
 pub fn write(chance: &mut Chance, rules: &Rules, size: Size, text: &mut Text) {
     let mut desk = Desk { rules, size, held: Vec::new(), text };
-    // Most sessions load first; the others show what is refused with no tree.
-    if !chance.one_in(10) {
-        desk.good_load(chance);
-    }
-    for _ in 0..chance.between(0, size.commands()) {
-        match chance.below(16) {
-            0 => desk.good_load(chance),
-            1 => desk.poor_load(chance),
-            2..=9 => desk.correct(chance),
-            10 | 11 => desk.poor_correction(chance),
-            _ => desk.dump(),
-        }
-    }
+    desk.draw(chance);
     if !chance.one_in(3) {
         desk.dump();
     }
 }
 
 impl Desk<'_> {
-    fn good_load(&mut self, chance: &mut Chance) {
-        let target = self.size.nodes(chance);
-        match grow(chance, self.rules, 0, target) {
-            Some(nodes) => self.load(&nodes),
-            None => self.poor_load(chance),
+    fn draw(&mut self, chance: &mut Chance) {
+        // Most sessions load first; the others show what is refused with no tree.
+        if !chance.one_in(10) {
+            self.good_load(chance);
         }
+        for _ in 0..chance.between(0, self.size.commands()) {
+            match chance.below(18) {
+                0 => self.good_load(chance),
+                1 => self.poor_load(chance),
+                2..=9 => self.correct(chance),
+                10 | 11 => self.poor_correction(chance),
+                12 | 13 => self.circular_correction(chance),
+                _ => self.dump(),
+            }
+        }
+    }
+
+    fn good_load(&mut self, chance: &mut Chance) {
+        let mut target = self.size.nodes(chance);
+        let Some(mut nodes) = grow(chance, self.rules, 0, target) else {
+            return self.poor_load(chance);
+        };
+        // A tree with a waiver inside a circle mostly gives way to smaller ones, so that there is
+        // something to correct; now and then it is loaded, to be refused.
+        while target > 1 && !self.allows(&nodes) && !chance.one_in(6) {
+            target /= 2;
+            nodes = grow(chance, self.rules, 0, target).unwrap_or(nodes);
+        }
+        self.load(&nodes);
     }
 
     fn poor_load(&mut self, chance: &mut Chance) {
@@ -83,6 +95,24 @@ impl Desk<'_> {
             _ => self.spoilt(chance, Vec::new()),
         };
         self.replace(point, &part);
+    }
+
+    /// A correction with which the tree would have a waiver inside a circle, if some tries find
+    /// one: of those that only have to fit few are such.
+    fn circular_correction(&mut self, chance: &mut Chance) {
+        if self.held.is_empty() {
+            return self.poor_correction(chance);
+        }
+        for _ in 0..30 {
+            let point = self.point(chance);
+            let part = self.part(chance, point);
+            if !self.allows(&self.corrected(point, &part)) {
+                // With a fault of the part's own besides, that one counts.
+                let part = if chance.one_in(3) { self.spoilt(chance, part) } else { part };
+                return self.replace(point, &part);
+            }
+        }
+        self.correct(chance);
     }
 
     fn dump(&mut self) {
@@ -138,18 +168,19 @@ impl Desk<'_> {
         grow(chance, self.rules, 0, count.min(2000)).unwrap_or_default()
     }
 
-    /// The nodes with one fault: none, one lost, one more, another production, or one that the
-    /// table doesn't have.
+    /// The nodes with one fault: none, one lost, one more, one left over, another production, or
+    /// one that the table doesn't have.
     fn spoilt(&self, chance: &mut Chance, mut nodes: Vec<Node>) -> Vec<Node> {
         if nodes.is_empty() || chance.one_in(8) {
             return Vec::new();
         }
         let at = chance.below(nodes.len());
         let other = Node { production: self.any_production(chance), own: 1 };
-        match chance.below(4) {
+        match chance.below(5) {
             0 => drop(nodes.remove(at)),
             1 => nodes.truncate(at),
             2 => nodes.insert(at + 1, other),
+            3 => nodes.push(other),
             _ => nodes[at] = other,
         }
         nodes
@@ -167,7 +198,7 @@ impl Desk<'_> {
         self.text.frame(&[0x06, high, low]);
         self.write_nodes(nodes);
         if nodes.len() <= NODES && is_sound(self.rules, 0, nodes) {
-            self.held = nodes.to_vec();
+            self.hold(nodes.to_vec());
         }
     }
 
@@ -179,11 +210,28 @@ impl Desk<'_> {
         if point >= self.held.len() {
             return;
         }
-        let end = end_of(self.rules, &self.held, point);
-        let fits = self.held.len() - (end - point) + part.len() <= NODES;
-        if fits && is_sound(self.rules, symbol_of(self.rules, self.held[point]), part) {
-            self.held.splice(point..end, part.iter().copied());
+        let nodes = self.corrected(point, part);
+        let symbol = symbol_of(self.rules, self.held[point]);
+        if nodes.len() <= NODES && is_sound(self.rules, symbol, part) {
+            self.hold(nodes);
         }
+    }
+
+    /// The held tree with this part in the place of the subtree at the point.
+    fn corrected(&self, point: usize, part: &[Node]) -> Vec<Node> {
+        let end = end_of(self.rules, &self.held, point);
+        [&self.held[..point], part, &self.held[end..]].concat()
+    }
+
+    /// A sound tree is held unless it has a waiver inside a circle.
+    fn hold(&mut self, nodes: Vec<Node>) {
+        if self.allows(&nodes) {
+            self.held = nodes;
+        }
+    }
+
+    fn allows(&self, nodes: &[Node]) -> bool {
+        waivers::inside(self.rules, nodes).is_none()
     }
 
     fn write_nodes(&mut self, nodes: &[Node]) {
@@ -197,4 +245,47 @@ fn with_other_owns(chance: &mut Chance, mut nodes: Vec<Node>) -> Vec<Node> {
     let at = chance.below(nodes.len());
     nodes[at].own = chance.set();
     nodes
+}
+
+#[cfg(test)]
+mod tests {
+    use super::Desk;
+    use crate::chance::Chance;
+    use crate::growth::Node;
+    use crate::rules::Rules;
+    use crate::session::Size;
+    use crate::text::Text;
+
+    /// The tree that we think is held after some commands, and the twin's answer to them and to a
+    /// dump behind them.
+    fn answer(rules: &Rules, commands: impl FnOnce(&mut Desk)) -> (Vec<Node>, Vec<String>) {
+        let mut text = Text::default();
+        rules.write(&mut text);
+        let mut desk = Desk { rules, size: Size::Small, held: Vec::new(), text: &mut text };
+        commands(&mut desk);
+        desk.dump();
+        let held = desk.held;
+        let mut answer = Vec::new();
+        thrummisk_reference::session::run(&text.bytes()[..], &mut answer).unwrap();
+        (held, String::from_utf8(answer).unwrap().lines().map(str::to_string).collect())
+    }
+
+    /// The sets at a session's end are those that a load of the tree gives which we think is held.
+    /// Else we are wrong about what is refused, or the twin about what a refusal leaves.
+    #[test]
+    fn the_session_holds_what_we_think() {
+        let mut waived = 0;
+        for seed in 1..=500 {
+            let mut chance = Chance::new(seed);
+            let rules = Rules::draw(&mut chance, Size::Small);
+            let (held, lines) = answer(&rules, |desk| desk.draw(&mut chance));
+            waived += usize::from(lines.iter().any(|line| line.starts_with("1f15")));
+            if !held.is_empty() {
+                let (_, cold) = answer(&rules, |desk| desk.load(&held));
+                let sets: Vec<_> = cold.into_iter().filter(|line| line.starts_with("13")).collect();
+                assert!(lines.ends_with(&sets), "seed {seed}");
+            }
+        }
+        assert!(waived >= 10, "only {waived} sessions with a waiver inside a circle");
+    }
 }

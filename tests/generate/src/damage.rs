@@ -5,7 +5,7 @@ use crate::text::{frame_of, line, Text};
 
 type Damage = fn(&mut Chance, &mut Text);
 
-const KINDS: [Damage; 32] = [
+const KINDS: [Damage; 36] = [
     // A field changed inside a good frame is how tables come to be refused: so, several times.
     another_field,
     another_field,
@@ -17,6 +17,10 @@ const KINDS: [Damage; 32] = [
     members_at_limit,
     members_at_limit,
     members_at_limit,
+    operation_at_limit,
+    operation_at_limit,
+    another_argument,
+    another_argument,
     more_children,
     another_digit,
     another_digit,
@@ -79,7 +83,7 @@ fn another_field(chance: &mut Chance, text: &mut Text) {
         return;
     }
     let field = if chance.one_in(3) { frame.len() - 1 } else { chance.between(1, frame.len() - 1) };
-    let beside = [0, 1, 2, 3, 4, 5, 6, 7, 8, 9, 31, 32, 33, 55, 56, 57, 63, 64, 65, 255];
+    let beside = [0, 1, 2, 3, 4, 5, 6, 7, 8, 9, 10, 31, 32, 33, 55, 56, 57, 63, 64, 65, 255];
     frame[field] = match chance.below(3) {
         0 => frame[field].wrapping_add(1),
         1 => frame[field].wrapping_sub(1),
@@ -106,15 +110,55 @@ fn counts_at_limits(chance: &mut Chance, text: &mut Text) {
 /// An equation with op 7 that asks for about as many members as it can count.
 fn members_at_limit(chance: &mut Chance, text: &mut Text) {
     let wanted: u64 = chance.pick(&[54, 55, 56, 57, 57, 58, 58, 64, 256, 1 << 32, u64::MAX]);
-    let counts = |line: &Vec<u8>| line.starts_with(b"0407") && frame_of(line).len() == 14;
-    let counting: Vec<usize> =
-        (0..text.lines.len()).filter(|&at| counts(&text.lines[at])).collect();
-    if counting.is_empty() {
-        return;
+    let Some((at, mut frame)) = an_equation(chance, text, |frame| frame[1] == 7) else { return };
+    frame[6..].copy_from_slice(&wanted.to_be_bytes());
+    text.lines[at] = line(&frame);
+}
+
+/// An equation without a constant that gets one of the last operations or one past them, and
+/// rarely a constant besides.
+fn operation_at_limit(chance: &mut Chance, text: &mut Text) {
+    let found = an_equation(chance, text, |frame| frame[6..] == [0; 8]);
+    let Some((at, mut frame)) = found else { return };
+    frame[1] = chance.pick(&[8, 9, 9, 10, 10, 10, 11]);
+    if chance.one_in(6) {
+        frame[chance.between(6, 13)] = 1;
     }
-    let at = chance.pick(&counting);
-    let head = &frame_of(&text.lines[at])[..6];
-    text.lines[at] = line(&[head, &wanted.to_be_bytes()].concat());
+    text.lines[at] = line(&frame);
+}
+
+/// An equation, one in two a waiver, whose a or b names something else, declared or not.
+fn another_argument(chance: &mut Chance, text: &mut Text) {
+    let any = chance.one_in(2);
+    let found = an_equation(chance, text, |frame| any || frame[1] == 9);
+    let Some((at, mut frame)) = found else { return };
+    let position = chance.pick(&[2, 4]);
+    if chance.one_in(2) {
+        frame[position] = chance.between(0, 5) as u8;
+    } else {
+        frame[position + 1] = chance.between(0, 8) as u8;
+    }
+    text.lines[at] = line(&frame);
+}
+
+/// The line and the frame of a whole equation that fits.
+fn an_equation(
+    chance: &mut Chance,
+    text: &Text,
+    fits: impl Fn(&[u8]) -> bool,
+) -> Option<(usize, Vec<u8>)> {
+    let is_whole = |frame: &[u8]| frame.len() == 14 && frame[0] == 0x04;
+    let mut found: Vec<(usize, Vec<u8>)> = text
+        .lines
+        .iter()
+        .map(|line| frame_of(line))
+        .enumerate()
+        .filter(|(_, frame)| is_whole(frame) && fits(frame))
+        .collect();
+    if found.is_empty() {
+        return None;
+    }
+    Some(found.swap_remove(chance.below(found.len())))
 }
 
 /// A production frame with more children than it may have, and as long as it then should be.

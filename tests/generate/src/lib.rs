@@ -11,3 +11,4 @@ pub mod session;
 pub mod survey;
 pub mod text;
 pub mod trial;
+pub mod waivers;

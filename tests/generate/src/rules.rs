@@ -3,6 +3,10 @@
 use crate::chance::Chance;
 use crate::session::Size;
 use crate::text::Text;
+use crate::waivers::{self, Allowed};
+
+/// The most productions that a table may have.
+pub const PRODUCTIONS: usize = 64;
 
 #[derive(Clone, Copy)]
 pub struct Symbol {
@@ -25,6 +29,18 @@ pub struct Equation {
     pub a: Occurrence,
     pub b: Occurrence,
     pub c: u64,
+}
+
+impl Equation {
+    /// The arguments that its operation reads.
+    pub fn arguments(&self) -> impl Iterator<Item = Occurrence> {
+        let count = match self.op {
+            0 | 1 => 0,
+            2 | 3 | 8 => 1,
+            _ => 2,
+        };
+        [self.a, self.b].into_iter().take(count)
+    }
 }
 
 #[derive(Clone)]
@@ -80,7 +96,24 @@ impl Rules {
             .into_iter()
             .map(|production| with_equations(chance, net, &symbols, production))
             .collect();
-        Self::new(symbols, productions)
+        let mut rules = Self::new(symbols, productions);
+        if chance.one_in(2) {
+            let allowed = match net {
+                // A table at the limit is there for its great circles: no leaf should break them.
+                _ if size == Size::Limit => Allowed::Most,
+                Net::Around | Net::Ring => {
+                    chance.pick(&[Allowed::Most, Allowed::Broken, Allowed::Broken])
+                }
+                _ => chance.pick(&[Allowed::Most, Allowed::Smallest, Allowed::Smallest]),
+            };
+            waivers::add(chance, &mut rules, allowed);
+        }
+        rules
+    }
+
+    /// The sets that a production defines, in the order of its equations.
+    pub fn targets(&self, production: &Production) -> Vec<Occurrence> {
+        targets(&declared(&self.symbols, production))
     }
 
     pub fn write(&self, text: &mut Text) {
@@ -134,7 +167,7 @@ impl Rules {
                 productions.push(bare(left as u8, &some_symbols(chance, left + 1, count, 3)));
             }
         }
-        let room = 64 - productions.len();
+        let room = PRODUCTIONS - productions.len();
         let more = if chance.one_in(20) { room } else { chance.below(room.min(9) + 1) };
         for _ in 0..more.max(usize::from(productions.is_empty())) {
             let left = chance.below(count) as u8;
@@ -199,18 +232,25 @@ fn with_equations(
     symbols: &[Symbol],
     production: Production,
 ) -> Production {
-    let Production { left, children, .. } = production;
-    let at = |position: usize| match position {
-        0 => symbols[usize::from(left)],
-        _ => symbols[usize::from(children[position - 1])],
-    };
-    let declared: Vec<Occurrence> = (0..=children.len())
-        .flat_map(|position| at(position).indices().map(move |index| (position as u8, index)))
-        .collect();
-    let is_defined = |&(position, index): &Occurrence| (position == 0) == (index < 4);
-    let targets = declared.iter().copied().filter(is_defined);
+    let declared = declared(symbols, &production);
+    let targets = targets(&declared).into_iter();
     let equations = targets.map(|target| equation(chance, net, target, &declared)).collect();
-    Production { left, children, equations }
+    Production { equations, ..production }
+}
+
+/// The sets of a production's left symbol and children.
+fn declared(symbols: &[Symbol], production: &Production) -> Vec<Occurrence> {
+    let row = [&[production.left], &production.children[..]].concat();
+    let sets = |(position, symbol): (u8, u8)| {
+        symbols[usize::from(symbol)].indices().map(move |index| (position, index))
+    };
+    (0..).zip(row).flat_map(sets).collect()
+}
+
+/// Those of the declared sets that the production itself defines.
+fn targets(declared: &[Occurrence]) -> Vec<Occurrence> {
+    let is_defined = |&(position, index): &Occurrence| (position == 0) == (index < 4);
+    declared.iter().copied().filter(is_defined).collect()
 }
 
 /// An equation for this set. Joins and own sets come more often than the rest: they let sets

@@ -1,0 +1,154 @@
+// The test for 21. A table without operation 9 pays for a look at its heads alone.
+use crate::preparing::prepare;
+use buffers::write_nodes;
+use memory::placing::exchange_nodes;
+use table::head_at;
+use table::production_count;
+ghost use mathlib.Core.Path.{_≡_};
+ghost use Prim.Native.Nat.{_<_, _≤_};
+ghost use lib.ListN.{length, take};
+ghost use Rattle.table.specs.Words.{productionCount};
+ghost use Rattle.wire.specs.ArrayLaws.{waivesAt, waivesIn};
+ghost use Rattle.wire.specs.Replaced.{nodesAfter};
+ghost use Rattle.wire.specs.Turns.{Held};
+ghost use Rattle.wire.specs.Waivers.{waives};
+ghost use Rattle.waiving.specs.Exchanging.{Exchanging};
+ghost use Rattle.waiving.specs.Nines.{isNine, nineIn};
+ghost use Rattle.waiving.specs.Prepared.{Tested};
+
+fn wide(x: u16) -> usize
+    ensures { λ r. ⌜ r ≡ x ⌝ }
+{
+    x as usize
+}
+
+// Whether a rule's operation is 9.
+fn is_nine(table: &[u64; 2657], rule: usize) -> bool
+    requires { ⌜ rule < 1280 ⌝ }
+    ensures { λ r. ⌜ r ≡ isNine (now (table .entry)) rule ⌝ }
+{
+    head_at(table, rule) / 4294967296 == 9
+}
+
+// Whether the table has an operation 9 at one of its rules' places.
+pub fn has_nine(table: &[u64; 2657]) -> bool
+    requires { ⌜ productionCount (now table) ≤ 64 ⌝ }
+    ensures { λ r. ⌜ r ≡ nineIn (now (table .entry)) ⌝ }
+{
+    let n = 20 * production_count(table);
+    let mut rule = 0;
+    while rule < n {
+        if is_nine(table, rule) {
+            return true;
+        }
+        rule += 1;
+    }
+    false
+}
+
+// Whether slot x waives an argument of its own circle.
+fn waives_at<'a>(
+    n: usize,
+    table: &'a [u64; 2657],
+    b: &'a [u16],
+    rule: &'a [u16],
+    label: &'a [u16],
+    x: usize,
+) -> bool
+    requires { ⌜ Tested n (now b) (now rule) (now label) ⌝ }
+    requires { ⌜ x < n ⌝ }
+    ensures { λ r. ⌜ r ≡ waivesAt n (now (table .entry)) (now (b .entry)) (now (rule .entry)) (now (label .entry)) x ⌝ }
+{
+    let y = wide(b[x]);
+    if n <= y {
+        return false;
+    }
+    if is_nine(table, wide(rule[x])) {
+        return label[y] == label[x];
+    }
+    false
+}
+
+// Whether one of n slots does.
+fn waives_in<'a>(
+    n: usize,
+    table: &'a [u64; 2657],
+    b: &'a [u16],
+    rule: &'a [u16],
+    label: &'a [u16],
+) -> bool
+    requires { ⌜ Tested n (now b) (now rule) (now label) ⌝ }
+    ensures { λ r. ⌜ r ≡ waivesIn n (now (table .entry)) (now (b .entry)) (now (rule .entry)) (now (label .entry)) ⌝ }
+{
+    let mut x = 0;
+    while x < n {
+        if waives_at(n, table, b, rule, label, x) {
+            return true;
+        }
+        x += 1;
+    }
+    false
+}
+
+// By the wiring and the circles of the tree.
+fn waives_wired<'a>(table: &'a [u64; 2657], tree: &'a [u8]) -> bool
+    requires { ⌜ Held (now table) (now tree) ⌝ }
+    ensures { λ r. ⌜ r ≡ waives (now (table .entry)) (now (tree .entry)) ⌝ }
+{
+    let mut a = [0u16; 4096];
+    let mut b = [0u16; 4096];
+    let mut left = [0u16; 4096];
+    let mut rule = [0u16; 4096];
+    let mut label = [0u16; 4096];
+    let mut members = [0u16; 4096];
+    let mut ends = [0u16; 4097];
+    prepare(
+        table,
+        tree,
+        &mut a,
+        &mut b,
+        &mut left,
+        &mut rule,
+        &mut label,
+        &mut members,
+        &mut ends,
+    );
+    waives_in(8 * tree.len(), table, &b, &rule, &label)
+}
+
+// Whether a sound tree has an operation 9 in one circle with its b: the test for 21.
+pub fn waives_tree(table: &[u64; 2657], tree: &[u8]) -> bool
+    requires { ⌜ Held (now table) (now tree) ⌝ }
+    ensures { λ r. ⌜ r ≡ waives (now (table .entry)) (now (tree .entry)) ⌝ }
+{
+    if has_nine(table) {
+        let count = tree.len();
+        let mut nodes = [0u8; 512];
+        write_nodes(&mut nodes, 0, tree);
+        return waives_wired(table, &nodes[..count]);
+    }
+    false
+}
+
+// The same of the tree as a replacement would leave it. Nothing lent may change before all is accepted, so its nodes are written to memory of their own.
+pub fn waives_then(
+    table: &[u64; 2657],
+    held: &[u8],
+    nodes: usize,
+    point: usize,
+    old: usize,
+    new: &[u8],
+) -> bool
+    requires { ⌜ nodes ≤ length (now held) ⌝ }
+    requires { ⌜ Exchanging (now table) (take nodes (now held)) point old (now new) ⌝ }
+    ensures { λ r. ⌜ r ≡ waives (now (table .entry)) (nodesAfter (now (table .entry)) (take nodes (now (held .entry))) (now (new .entry)) point) ⌝ }
+{
+    if has_nine(table) {
+        let count = nodes - old + new.len();
+        let mut tree = [0u8; 512];
+        write_nodes(&mut tree, 0, &held[..nodes]);
+        exchange_nodes(&mut tree, nodes, point, old, new);
+        return waives_wired(table, &tree[..count]);
+    }
+    false
+}
