@@ -4,7 +4,7 @@ use std::mem;
 use std::ops::Range;
 
 use crate::circles::{Circle, Circles};
-use crate::frames::{Done, Node, Round};
+use crate::frames::{Done, Node, Point, Round};
 use crate::ranks::Ranks;
 use crate::refusal::Refusal;
 use crate::rows::{Place, Row};
@@ -13,8 +13,11 @@ use crate::table::Table;
 use crate::tree::{judge, NODES};
 use crate::wiring::Wiring;
 
-/// The nodes that a command hands in. Those behind the limit are counted and not kept: such a
-/// part is refused whatever they say.
+/// The most points that a replacement may have.
+const POINTS: usize = 8;
+
+/// The nodes that a command hands in, of several points one part behind the other. Those behind
+/// the limit are counted and not kept: they would pass it in any tree, whatever they say.
 #[derive(Default)]
 pub struct Part {
     pub count: usize,
@@ -26,12 +29,20 @@ pub enum Step {
     Done(Done),
 }
 
+/// What one point exchanges.
+struct Graft {
+    /// The nodes of its old part, in the tree as it was.
+    old: Range<usize>,
+    /// The nodes of its new part, among those handed in.
+    new: Range<usize>,
+}
+
 /// How far the open update has come.
 #[derive(Default)]
 struct Update {
-    /// The places that didn't exist before: all in a load, those below the point in a
+    /// The places that didn't exist before: all in a load, those below the points in a
     /// replacement. What lies outside survives.
-    new: Range<Place>,
+    new: Vec<Range<Place>>,
     rank: usize,
     round: u32,
     circles: u16,
@@ -82,30 +93,31 @@ impl Engine {
         judge(&self.table, 0, &part.nodes)?;
         self.hold(part.nodes.clone())?;
         self.sets.clear(self.wiring.places(), 0);
-        self.open(0..self.wiring.places());
+        let all = 0..self.wiring.places();
+        self.open(vec![all]);
         Ok(())
     }
 
-    pub fn replace(&mut self, point: usize, part: &Part) -> Result<(), Refusal> {
+    /// Exchanges the subtrees at these points, all numbered in the tree as it was.
+    pub fn replace(&mut self, points: &[Point], part: &Part) -> Result<(), Refusal> {
+        if !(1..=POINTS).contains(&points.len()) {
+            return Err(Refusal::PointsOutsideLimit);
+        }
         if self.nodes.is_empty() {
             return Err(Refusal::NoTree);
         }
-        let root = *self.nodes.get(point).ok_or(Refusal::PointOutsideTree)?;
-        let end = point + self.wiring.span(point);
-        if self.nodes.len() - (end - point) + part.count > NODES {
-            return Err(Refusal::TooManyNodes);
-        }
-        judge(&self.table, self.table.production_of(&root).left, &part.nodes)?;
-        let old = self.below(point..end);
+        let grafts = self.grafts(points)?;
+        self.judge_parts(&grafts, part)?;
+        let old: Vec<_> = grafts.iter().map(|graft| self.below(&graft.old)).collect();
         let places = self.wiring.places();
-        let mut nodes = self.nodes.clone();
-        nodes.splice(point..end, part.nodes.iter().copied());
+        let (nodes, parts) = self.splice(&grafts, &part.nodes);
         self.hold(nodes)?;
-        let new = self.below(point..point + part.count);
-        self.shift(old.end..places, new.end);
-        self.sets.part_mut(new.start, new.end).fill(0);
+        let new: Vec<_> = parts.iter().map(|part| self.below(part)).collect();
+        self.arrange(&old, &new, places);
         self.open(new);
-        self.sow(self.synthesized(point));
+        for part in parts {
+            self.sow(self.synthesized(part.start));
+        }
         Ok(())
     }
 
@@ -174,8 +186,58 @@ impl Engine {
         })
     }
 
+    /// What the points exchange, if all are nodes of the tree and each lies behind the old part of
+    /// the one before.
+    fn grafts(&self, points: &[Point]) -> Result<Vec<Graft>, Refusal> {
+        if points.iter().any(|point| usize::from(point.node) >= self.nodes.len()) {
+            return Err(Refusal::PointOutsideTree);
+        }
+        let mut grafts = Vec::with_capacity(points.len());
+        let (mut behind, mut handed) = (0, 0);
+        for &Point { node, count } in points {
+            let start = usize::from(node);
+            if start < behind {
+                return Err(Refusal::PointsOverlap);
+            }
+            behind = start + self.wiring.span(start);
+            let end = handed + usize::from(count);
+            grafts.push(Graft { old: start..behind, new: handed..end });
+            handed = end;
+        }
+        Ok(grafts)
+    }
+
+    /// Judges the number of nodes that the tree would have at the end, and then part by part.
+    fn judge_parts(&self, grafts: &[Graft], part: &Part) -> Result<(), Refusal> {
+        let gone: usize = grafts.iter().map(|graft| graft.old.len()).sum();
+        if self.nodes.len() - gone + part.count > NODES {
+            return Err(Refusal::TooManyNodes);
+        }
+        for Graft { old, new } in grafts {
+            let symbol = self.table.production_of(&self.nodes[old.start]).left;
+            judge(&self.table, symbol, &part.nodes[new.clone()])?;
+        }
+        Ok(())
+    }
+
+    /// The tree with all parts exchanged, and where in it the new ones are. Front to back and at
+    /// once: with some parts exchanged and others not, a tree may pass the limit.
+    fn splice(&self, grafts: &[Graft], handed: &[Node]) -> (Vec<Node>, Vec<Range<usize>>) {
+        let mut nodes = Vec::with_capacity(NODES);
+        let mut parts = Vec::with_capacity(grafts.len());
+        let mut behind = 0;
+        for Graft { old, new } in grafts {
+            nodes.extend_from_slice(&self.nodes[behind..old.start]);
+            parts.push(nodes.len()..nodes.len() + new.len());
+            nodes.extend_from_slice(&handed[new.clone()]);
+            behind = old.end;
+        }
+        nodes.extend_from_slice(&self.nodes[behind..]);
+        (nodes, parts)
+    }
+
     /// The places of all nodes of a subtree but its root.
-    fn below(&self, subtree: Range<usize>) -> Range<Place> {
+    fn below(&self, subtree: &Range<usize>) -> Range<Place> {
         self.wiring.first(subtree.start + 1)..self.wiring.first(subtree.end)
     }
 
@@ -185,20 +247,26 @@ impl Engine {
         first..first + Place::from(symbol.synthesized)
     }
 
-    /// Moves the sets of the nodes behind a part to where those nodes now are.
-    fn shift(&mut self, behind: Range<Place>, to: Place) {
-        let reach = behind.end.max(to + behind.len() as Place);
-        self.sets.reach(reach, 0);
-        if behind.start != to {
-            let range = usize::from(behind.start)..usize::from(behind.end);
-            self.sets.part_mut(0, reach).copy_within(range, to.into());
+    /// Moves the sets of the nodes that stay to where those nodes now are; below the points all
+    /// start empty. Of the old tree it needs the places that go, and how many it had.
+    fn arrange(&mut self, old: &[Range<Place>], new: &[Range<Place>], places: Place) {
+        let mut sets = Vec::with_capacity(self.wiring.places().into());
+        let mut behind = 0;
+        for (old, new) in old.iter().zip(new) {
+            sets.extend_from_slice(self.sets.part(behind, old.start));
+            sets.resize(new.end.into(), 0);
+            behind = old.end;
         }
+        sets.extend_from_slice(self.sets.part(behind, places));
+        self.sets = Row::from(sets);
     }
 
-    fn open(&mut self, new: Range<Place>) {
+    fn open(&mut self, new: Vec<Range<Place>>) {
         self.due.clear();
         self.due.resize(self.circles.count().into(), false);
-        self.sow(new.clone());
+        for places in &new {
+            self.sow(places.clone());
+        }
         self.update = Update { new, ..Update::default() };
     }
 
@@ -266,7 +334,7 @@ impl Engine {
 
     /// A finished set isn't as before: it counts as changed, and those who read it are due.
     fn tell(&mut self, place: Place) {
-        if !self.update.new.contains(&place) {
+        if !self.update.new.iter().any(|new| new.contains(&place)) {
             self.update.changed += 1;
         }
         for reader in self.ranks.readers(place) {

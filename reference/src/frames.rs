@@ -28,6 +28,13 @@ pub struct Node {
     pub own: u64,
 }
 
+/// A point of a replacement: a node of the tree as it was, and how many nodes its new part has.
+#[derive(Clone, Copy, Debug)]
+pub struct Point {
+    pub node: u16,
+    pub count: u16,
+}
+
 #[derive(Clone, Copy, Debug)]
 pub enum Frame {
     Counts {
@@ -49,11 +56,12 @@ pub enum Frame {
     Load {
         count: u16,
     },
-    Replace {
-        point: u16,
-        count: u16,
-    },
+    Replace(Point),
     Dump,
+    ReplaceAll {
+        points: u8,
+    },
+    Point(Point),
 }
 
 impl Frame {
@@ -73,11 +81,10 @@ impl Frame {
             }),
             [0x05, production, ref own @ ..] => Frame::Node(Node { production, own: set(own)? }),
             [0x06, high, low] => Frame::Load { count: u16::from_be_bytes([high, low]) },
-            [0x07, r, s, high, low] => Frame::Replace {
-                point: u16::from_be_bytes([r, s]),
-                count: u16::from_be_bytes([high, low]),
-            },
+            [0x07, ref rest @ ..] => Frame::Replace(point(rest)?),
             [0x08] => Frame::Dump,
+            [0x09, points] => Frame::ReplaceAll { points },
+            [0x0b, ref rest @ ..] => Frame::Point(point(rest)?),
             _ => return None,
         };
         Some(frame)
@@ -86,6 +93,11 @@ impl Frame {
 
 fn set(bytes: &[u8]) -> Option<u64> {
     Some(u64::from_be_bytes(bytes.try_into().ok()?))
+}
+
+fn point(bytes: &[u8]) -> Option<Point> {
+    let [r, s, high, low] = bytes.try_into().ok()?;
+    Some(Point { node: u16::from_be_bytes([r, s]), count: u16::from_be_bytes([high, low]) })
 }
 
 fn first_four(row: &[u8]) -> [u8; 4] {

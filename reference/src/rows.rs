@@ -33,8 +33,14 @@ impl<T: Copy> Row<T> {
         self.0[..usize::from(places)].fill(value);
     }
 
-    pub fn part_mut(&mut self, start: Place, end: Place) -> &mut [T] {
-        &mut self.0[usize::from(start)..usize::from(end)]
+    pub fn part(&self, start: Place, end: Place) -> &[T] {
+        &self.0[usize::from(start)..usize::from(end)]
+    }
+}
+
+impl<T> From<Vec<T>> for Row<T> {
+    fn from(entries: Vec<T>) -> Self {
+        Row(entries)
     }
 }
 

@@ -3,7 +3,7 @@
 use std::io::{self, Read, Write};
 
 use crate::engine::{Engine, Part, Step};
-use crate::frames::{Frame, Frames, Printer};
+use crate::frames::{Frame, Frames, Point, Printer};
 use crate::refusal::{Halt, Refusal};
 use crate::table::Table;
 use crate::tree::NODES;
@@ -24,6 +24,7 @@ pub fn run(input: impl Read, output: impl Write) -> io::Result<()> {
 fn answer<R: Read, W: Write>(frames: &mut Frames<R>, printer: &mut Printer<W>) -> Result<(), Halt> {
     let mut engine = Engine::new(Table::read(frames)?);
     let mut part = Part::default();
+    let mut points = Vec::new();
     loop {
         // Nobody should wait for answers that we hold back while we wait for text.
         if frames.is_dry() {
@@ -35,12 +36,18 @@ fn answer<R: Read, W: Write>(frames: &mut Frames<R>, printer: &mut Printer<W>) -
         let line = frames.line();
         let opened = match command {
             Frame::Load { count } => {
-                read_part(frames, count, &mut part)?;
+                read_part(frames, count.into(), &mut part)?;
                 engine.load(&part)
             }
-            Frame::Replace { point, count } => {
-                read_part(frames, count, &mut part)?;
-                engine.replace(usize::from(point), &part)
+            Frame::Replace(point) => {
+                read_part(frames, point.count.into(), &mut part)?;
+                engine.replace(&[point], &part)
+            }
+            Frame::ReplaceAll { points: count } => {
+                read_points(frames, count, &mut points)?;
+                let nodes = points.iter().map(|point| usize::from(point.count)).sum();
+                read_part(frames, nodes, &mut part)?;
+                engine.replace(&points, &part)
             }
             Frame::Dump => {
                 dump(&engine, line, printer)?;
@@ -55,10 +62,25 @@ fn answer<R: Read, W: Write>(frames: &mut Frames<R>, printer: &mut Printer<W>) -
     }
 }
 
-/// All lines of a command are judged before anything else about it, so the whole part is read
-/// even where it is sure to be refused.
-fn read_part<R: Read>(frames: &mut Frames<R>, count: u16, part: &mut Part) -> Result<(), Halt> {
-    part.count = usize::from(count);
+/// All lines of a command are judged before anything else about it, so all its points and nodes
+/// are read even where it is sure to be refused.
+fn read_points<R: Read>(
+    frames: &mut Frames<R>,
+    count: u8,
+    points: &mut Vec<Point>,
+) -> Result<(), Halt> {
+    points.clear();
+    for _ in 0..count {
+        let Frame::Point(point) = frames.inside()? else {
+            return Err(frames.misplaced());
+        };
+        points.push(point);
+    }
+    Ok(())
+}
+
+fn read_part<R: Read>(frames: &mut Frames<R>, count: usize, part: &mut Part) -> Result<(), Halt> {
+    part.count = count;
     part.nodes.clear();
     for _ in 0..count {
         let Frame::Node(node) = frames.inside()? else {

@@ -7,12 +7,15 @@ use crate::tape::ALL;
 use crate::tape::Call;
 use crate::tape::Change;
 use crate::tape::Look;
+use crate::tape::Row;
 use crate::tape::Work;
 use crate::tape::call_of;
 use crate::tell::say;
 use crate::tell::tell_advanced;
 use crate::tell::tell_begun;
 use crate::tell::tell_stepped;
+use tree::Places;
+use tree::Point;
 use update::Record;
 
 // What lies in lent memory at first.
@@ -38,6 +41,43 @@ fn owns_of<'a>(owns: &'a [u64], from: usize, to: usize) -> &'a [u64] {
         return owns;
     }
     &owns[from..to]
+}
+
+// The points of a row. It has room for eight, so one that says nine has no ninth to show.
+fn places_of(count: usize, first: usize, second: usize) -> Places {
+    let none = Point { node: 0, count: 0 };
+    let mut points = [none; 8];
+    points[0] = Point {
+        node: first,
+        count: 1,
+    };
+    points[1] = Point {
+        node: second,
+        count: 1,
+    };
+    Places {
+        count: count,
+        points: points,
+    }
+}
+
+// A replacement at several points, and the record that it leaves.
+fn replace_points(
+    table: &[u64; 2657],
+    r: Record,
+    row: Row,
+    nodes: &[u8],
+    owns: &[u64],
+    held: &mut [u8; 512],
+    held_owns: &mut [u64; 512],
+    sets: &mut [u64; 4096],
+    before: &mut [u64; 4096],
+) -> Record {
+    let points = places_of(row.count, row.first, row.second);
+    let new = nodes_of(nodes, row.from, row.to);
+    let own = owns_of(owns, row.own, ALL);
+    let d = engine::replace_points(table, r, points, new, own, held, held_owns, sets, before);
+    tell_begun(b"replace_points: ", d)
 }
 
 // A load or a replacement, and the record that it leaves.
@@ -69,6 +109,9 @@ fn change(
             let own = owns_of(owns, own, ALL);
             let d = engine::replace(table, r, point, part, own, held, held_owns, sets, before);
             tell_begun(b"replace: ", d)
+        }
+        Change::ReplacePoints(row) => {
+            replace_points(table, r, row, nodes, owns, held, held_owns, sets, before)
         }
     }
 }

@@ -26,8 +26,19 @@ fn call_day(table: [u64; 2657], nodes: &[u8], owns: &[u64], count: usize, point:
     perform(table, tape, nodes, owns, count, point);
 }
 
-// A day's text has its table and its tree, of at most 512 nodes; what stands behind them is no production of their tables. The leaf at the point is replaced.
-fn tell_text(text: &[u8], point: usize) {
+// The calls that replace at several points, on a day whose tree ends before the last two own sets: with a table of zeros; without a tree, where 22 comes before 16; with a
+// record beyond its limits; while the load is open; what is refused when it is done; a row that isn't; what is refused while that is open; its rounds, and readings; the
+// same row once more, which now alters nothing.
+fn call_rows(table: [u64; 2657], nodes: &[u8], owns: &[u64], count: usize, point: usize) {
+    let zeros = [0u64; 2657];
+    perform(zeros, b" kdk ", nodes, owns, count, point);
+    let tape = b"kdz9k odznk lk dzk ek qz92jyk dk djk 0s1vk a dek";
+    perform(table, tape, nodes, owns, count, point);
+}
+
+// A day's text has its table and its tree, of at most 512 nodes; what stands behind them is no production of their tables. The leaf at the point is replaced; in a day with
+// rows, both leaves together too.
+fn tell_text(text: &[u8], point: usize, rows: bool) {
     let mut table = [0u64; 2657];
     let mut nodes = [3u8; ALL];
     let mut owns = [0u64; ALL];
@@ -39,9 +50,12 @@ fn tell_text(text: &[u8], point: usize) {
         return;
     };
     call_day(table, &nodes, &owns, count, point);
+    if rows {
+        call_rows(table, &nodes, &owns, count, point);
+    }
 }
 
-fn tell_day(name: &[u8], point: usize) {
+fn tell_day(name: &[u8], point: usize, rows: bool) {
     let mut text = io::large_buffer();
     let fd = os::open_read(name);
     if fd < 0 {
@@ -52,13 +66,13 @@ fn tell_day(name: &[u8], point: usize) {
     libc::close(fd);
     say(name);
     say(b"\n");
-    tell_text(&text[..length], point);
+    tell_text(&text[..length], point, rows);
 }
 
 fn main() {
     say(b"| held open nodes point part rank round circles evaluations\n");
-    tell_day(b"session-a.txt", 1);
-    tell_day(b"full-512.txt", 511);
-    tell_day(b"waiver-outside.txt", 1);
-    tell_day(b"waiver-inside.txt", 1);
+    tell_day(b"session-a.txt", 1, true);
+    tell_day(b"full-512.txt", 511, false);
+    tell_day(b"waiver-outside.txt", 1, false);
+    tell_day(b"waiver-inside.txt", 1, false);
 }

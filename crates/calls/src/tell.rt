@@ -6,6 +6,7 @@ use refusal::Verdict;
 use refusal::number;
 use steps::Advanced;
 use steps::Stepped;
+use tree::Point;
 use update::Answer;
 use update::Open;
 use update::Reading;
@@ -65,19 +66,55 @@ fn open_number(open: Open) -> u64 {
     }
 }
 
-// The record's fields in their order, as a line's end.
+// How many points an update has that was opened at one point, or by a load; without an update there is none.
+fn usual_count(open: Open) -> u64 {
+    match open {
+        Open::Nothing => 0,
+        Open::Load => 1,
+        Open::Replacement => 1,
+    }
+}
+
+// A point at a further place of the array, where one stands.
+fn tell_place(place: u64, q: Point) {
+    if q.node == 0 && q.count == 0 {
+        return;
+    }
+    say_count(b", ", place);
+    say(b":");
+    say_next(q.node as u64);
+    say_next(q.count as u64);
+}
+
+// What a record has beyond one point: how many points there are, if that is unusual, and what stands at the further places.
+fn tell_others(record: Record) {
+    let open = record.open;
+    let count = record.count as u64;
+    if count != usual_count(open) {
+        say_count(b", points ", count);
+    }
+    for i in 1..8 {
+        let q = record.points[i];
+        tell_place(i as u64, q);
+    }
+}
+
+// The record's fields in their order, as a line's end. Of the points it has the first place, so that a record with one point is told as shortly as one
+// without any; all that is more is said behind.
 fn tell_record(record: Record) {
     let open = record.open;
+    let first = record.points[0];
     say(b" |");
     say_next(bit(record.held));
     say_next(open_number(open));
     say_next(record.nodes as u64);
-    say_next(record.point as u64);
-    say_next(record.part as u64);
+    say_next(first.node as u64);
+    say_next(first.count as u64);
     say_next(record.rank as u64);
     say_next(record.round);
     say_next(record.circles);
     say_next(record.evaluations);
+    tell_others(record);
     say(b"\n");
 }
 

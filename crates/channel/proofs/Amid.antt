@@ -6,6 +6,10 @@ use Prim.Native.Nat.{ℕ, suc, _<_}
 use native.Mathlib.Omega.{arith}
 use lib.ListN.{length, take, drop}
 use Rattle.io.specs.Counts.{Counts}
+use Rattle.refusal.specs.Numbers.{numberOf, verdictOf}
+use Rattle.refusal.specs.declared.Refusal.{Refusal}
+use Rattle.refusal.specs.declared.Verdict.the-variants.{Sound, Refused}
+use Rattle.refusal.proofs.Distinct.{number-low}
 use Rattle.desk.specs.declared.State.{State}
 use Rattle.desk.specs.Desk.{Desk, owedFor}
 use Rattle.pieces.specs.declared.Fed.{Fed}
@@ -26,6 +30,10 @@ pub data Amid (d : Desk) (out piece : List ℕ) (d′ : State → Desk) (out′ 
 abbrev pub toDo : List ℕ → (State → Desk) → Turn → ℕ
 toDo piece d r = cond (r .more) (suc (length (owedFor (d (r .state)) (drop (r .place) piece)))) 0
 
+-- what is refused is not sound
+unsound : (q : Refusal) → Refused q ≡ Sound → ⊥
+unsound q e = let z : numberOf q ≡ 0 = ap verdictOf e in omega (arith, number-low q)
+
 -- before the first call: b are the buffers, with any state
 pub amid-first : (b : State → Desk) (out piece : List ℕ) (s : State) (r : Turn) → r ≡ goingOn s 0 true → Amid (b (r .state)) out piece b out r
 amid-first b out piece s r q = subst (λ (x : Turn). Amid (b (x .state)) out piece b out x) (sym q) (still laws.none)
@@ -40,8 +48,9 @@ module _ (d : Desk) (out piece : List ℕ) where
 
     next-of : (s : State) {n : ℕ} {text : List ℕ} {at : ℕ} {fed : Fed} {r : Turn} → Calls Again d out piece 0 n text (e s) o at → FeedSays (e s) piece at o d′ out′ fed → Goes fed r
         → Amid d out piece d′ out′ r
-    next-of s c (takes {s = s′} {more = more} z fits f) on = called s s′ more c f
+    next-of s c (takes {s = s′} {more = more} z fits f) (on h) = called s s′ more c f
     next-of s c (takes z fits f) (over s′) = ended s′
+    next-of s c (refuses {q = q} z same left) (on h) = absurd (unsound q h)
     next-of s c (refuses z same left) (over s′) = ended s′
 
     pub amid-next : (now : Turn) {r : Turn} → Amid d out piece e o now → now .more ≡ true → Served (e (now .state)) piece (now .place) o d′ out′ r → Amid d out piece d′ out′ r
@@ -50,9 +59,10 @@ module _ (d : Desk) (out piece : List ℕ) where
     amid-next now (ended s) h v = absurd (true≢false (sym h))
 
     less-of : (s : State) {at : ℕ} {fed : Fed} {r : Turn} → FeedSays (e s) piece at o d′ out′ fed → Goes fed r → toDo piece d′ r < suc (length (owedFor (e s) (drop at piece)))
-    less-of s (takes {more = true} z fits f) on = omega (arith, owed-less f)
-    less-of s (takes {more = false} z fits f) on = omega arith
+    less-of s (takes {more = true} z fits f) (on h) = omega (arith, owed-less f)
+    less-of s (takes {more = false} z fits f) (on h) = omega arith
     less-of s (takes z fits f) (over s′) = omega arith
+    less-of s (refuses {q = q} z same left) (on h) = absurd (unsound q h)
     less-of s (refuses z same left) (over s′) = omega arith
 
     pub amid-less : (now : Turn) {r : Turn} → now .more ≡ true → Served (e (now .state)) piece (now .place) o d′ out′ r → toDo piece d′ r < toDo piece e now

@@ -7,6 +7,7 @@ pub mod Restriction
 pub mod Sums
 pub mod Working
 pub mod Finishing
+pub mod Carried
 pub mod Everywhere
 pub mod Storing
 pub mod Places

@@ -8,6 +8,7 @@ pub mod ByRank
 pub mod Waived
 pub mod Restrict
 pub mod CircuitLaws
+pub mod Carried
 pub mod Memory
 pub mod Wired
 pub mod Example

@@ -2,7 +2,7 @@
 use mathlib.Core.Path.{_≡_, sym, ap, _∙_, subst}
 use mathlib.Core.Bool.{true, false, true≢false}
 use mathlib.Core.Logic.{⊎-elim}
-use mathlib.Core.List.{List}
+use mathlib.Core.List.{List, [], _∷_, List·Memᴰ·head, List·Memᴰ·tail, List·Memᴰ·not-nil}
 use Prim.Native.Nat.{ℕ, _<_}
 use native.Mathlib.Omega.{arith}
 use lib.ListN.{length}
@@ -13,19 +13,19 @@ use Rattle.climb.specs.Circuit.{circleAt}
 use Rattle.climb.specs.Memory.{at}
 use Rattle.climb.proofs.Lists.{either}
 use Rattle.climb.proofs.Working.{untouched, after-small}
-use Rattle.tree.specs.Replace.{part}
+use Rattle.tree.specs.Points.{Part, ownsRow}
 use Rattle.wire.specs.Instances.{declared, system}
 use Rattle.wire.specs.Laws.{Words}
-use Rattle.wire.specs.Replaced.{ownsAfter}
 use Rattle.update.specs.declared.Record.{Record}
 use Rattle.update.specs.Records.{shut}
 use Rattle.update.specs.Memories.{Memory}
 use Rattle.update.specs.Steps.{sownOf, Ran}
 use Rattle.update.specs.Calls.{withSets}
+use Rattle.update.specs.Points.{WordsIn}
 use Rattle.update.specs.Course.{ranOf, wholeOf, Finishes}
 use Rattle.update.proofs.Running as running
 use Rattle.update.proofs.Ready.{circles, lawful, in-rank, Ready, begins, Settled}
-use Rattle.update.proofs.Openings.{words-exchanged, ready-load, ready-replacement}
+use Rattle.update.proofs.Openings.{words-row, ready-load, ready-row}
 use Rattle.demands.specs.Engine.{Engine, ours}
 use Rattle.demands.specs.History.{WorkedToDone, Opening, loads, replaces, History, finishes}
 use Rattle.demands.proofs.Rows.{ended}
@@ -79,12 +79,19 @@ mutual
 
   pub ready-opening : {t ns owns : List ℕ} {r : Record} {m : Memory} → Opening ours t ns owns r m → Ready t ns owns r m
   ready-opening (loads m r ns owns w o h) = ready-load m r w o h
-  ready-opening {t} {r = r′} {m = m′} (replaces {ns = ns} {owns = owns} {ns′ = ns′} {owns′ = owns′} p point new newOwns w h a b) =
-      let q = ready-replacement point new newOwns (settled-history p) w h in
-      let c = subst (λ (l : List ℕ). Ready t l (ownsAfter t ns owns newOwns point) r′ m′) (sym a) q in
+  ready-opening {t} {r = r′} {m = m′} (replaces {ns = ns} {owns = owns} {ns′ = ns′} {owns′ = owns′} p ps w h a b) =
+      let q = ready-row ps (settled-history p) w h in
+      let c = subst (λ (l : List ℕ). Ready t l (ownsRow t ns owns ps) r′ m′) (sym a) q in
       subst (λ (l : List ℕ). Ready t ns′ l r′ m′) (sym b) c
 
--- ---- of any engine: the words of a history's table and own sets
+-- ---- words: of a row, part by part, and of any engine's histories
+
+pub words-end : WordsIn []
+words-end q i = absurd (List·Memᴰ·not-nil i)
+
+pub words-more : {p : Part} {ps : List Part} → Words (p .owns) → WordsIn ps → WordsIn (p ∷ ps)
+words-more w f q (List·Memᴰ·head e) = subst (λ (k : Part). Words (k .owns)) (sym e) w
+words-more w f q (List·Memᴰ·tail i) = f q i
 
 mutual
   pub history-words : {E : Engine} {t ns owns : List ℕ} {r : Record} {m : Memory} → History E t ns owns r m → Words t × Words owns
@@ -92,6 +99,6 @@ mutual
 
   opening-words : {E : Engine} {t ns owns : List ℕ} {r : Record} {m : Memory} → Opening E t ns owns r m → Words t × Words owns
   opening-words (loads m r ns owns w o h) = (w, o)
-  opening-words {t = t} (replaces {ns = ns} {owns = owns} p point new newOwns w h a b) =
+  opening-words {t = t} (replaces {ns = ns} {owns = owns} p ps w h a b) =
       let q = history-words p in
-      (q .0, subst Words (sym b) (words-exchanged owns point (part t ns point) newOwns (q .1) w))
+      (q .0, subst Words (sym b) (words-row t ns owns ps (q .1) w))

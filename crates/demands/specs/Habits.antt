@@ -14,7 +14,7 @@ use Rattle.update.specs.declared.Record.{Record}
 use Rattle.update.specs.Memories.{Memory}
 use Rattle.update.specs.Refusals.{stepRefusal}
 use Rattle.update.specs.Steps.{sownOf, round, Made, roundNumber, fromOf, toOf, closedOf, roundRecord, doneMade, paused, Ran, continued}
-use Rattle.update.specs.Calls.{unless, systemOf, withSets, stepLeft, runLeft, loadCall, replaceCall, stepCall, runCall, readCall}
+use Rattle.update.specs.Calls.{unless, systemOf, withSets, stepLeft, runLeft, loadCall, pointsCall, stepCall, runCall, readCall}
 use Rattle.demands.specs.Engine.{Engine}
 
 -- the equations; which circle is due; the sets that a round starts from and leaves; when it closes the circle
@@ -48,7 +48,7 @@ runBy h t (suc n) m r =
 abbrev pub acting : Habits → Engine
 acting h = record {
   load = loadCall;
-  replace = replaceCall;
+  replace = pointsCall;
   step = λ t m r. unless (stepRefusal t m r) r m (stepLeft m (stepBy h t m r));
   run = λ t m r budget. unless (stepRefusal t m r) r m (runLeft m (runBy h t budget m r));
   read = readCall;

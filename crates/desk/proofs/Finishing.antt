@@ -23,7 +23,7 @@ use Rattle.planting.specs.Written.{refusalOf, writtenOf, bufferAfter}
 use Rattle.planting.proofs.Refusing.{writes-exactly}
 use Rattle.owing.specs.Laws.{endText}
 use Rattle.owing.specs.declared.Mode.{Mode}
-use Rattle.owing.specs.declared.Mode.the-variants.{Table, Command, Nodes, Working, Stopped}
+use Rattle.owing.specs.declared.Mode.the-variants.{Table, Command, Naming, Nodes, Working, Stopped}
 use Rattle.desk.specs.Ending.{lastText, working, finished, finishedOut, FinishSays, inside, AtWork, Early, by10, FinishExactly}
 use Rattle.desk.specs.declared.State.{State}
 
@@ -34,6 +34,7 @@ pub begun-text : (mode : Mode) (begun line : ℕ) → working mode ≡ false →
 unfolding endText
 begun-text (Table x) begun line e f b = rw b
 begun-text Command begun line e f b = rw b
+begun-text (Naming count taken command) begun line e f b = rw b
 begun-text (Nodes order count taken command) begun line e f b = rw b
 begun-text (Working turns) begun line e f b = absurd (true≢false e)
 begun-text Stopped begun line e f b = absurd (f refl)
@@ -43,6 +44,7 @@ pub inside-text : (mode : Mode) (begun line : ℕ) → inside mode ≡ true → 
 unfolding endText
 inside-text (Table x) begun line e b = rw b
 inside-text Command begun line e b = absurd (true≢false (sym e))
+inside-text (Naming count taken command) begun line e b = rw b
 inside-text (Nodes order count taken command) begun line e b = rw b
 inside-text (Working turns) begun line e b = absurd (true≢false (sym e))
 inside-text Stopped begun line e b = absurd (true≢false (sym e))
@@ -51,6 +53,7 @@ pub outside-text : (mode : Mode) (begun line : ℕ) → inside mode ≡ false �
 unfolding endText
 outside-text (Table x) begun line e b = absurd (true≢false e)
 outside-text Command begun line e b = rw b
+outside-text (Naming count taken command) begun line e b = absurd (true≢false e)
 outside-text (Nodes order count taken command) begun line e b = absurd (true≢false e)
 outside-text (Working turns) begun line e b = refl
 outside-text Stopped begun line e b = refl
@@ -106,6 +109,7 @@ no-work mode w (turns, e) = true≢false (sym (ap working e) ∙ w)
 at-work : (mode : Mode) → working mode ≡ true → AtWork mode
 at-work (Table x) w = absurd (true≢false (sym w))
 at-work Command w = absurd (true≢false (sym w))
+at-work (Naming count taken command) w = absurd (true≢false (sym w))
 at-work (Nodes order count taken command) w = absurd (true≢false (sym w))
 at-work (Working turns) w = (turns, refl)
 at-work Stopped w = absurd (true≢false (sym w))

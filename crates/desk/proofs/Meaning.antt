@@ -1,22 +1,23 @@
--- What the tests of a state say: long enough buffers, and a line that is begun. Assumes nothing.
+-- What the tests of a state say: long enough buffers, a line that is begun, and points that can have been named. Assumes nothing.
 use mathlib.Core.Path.{_≡_, sym, _∙_}
-use mathlib.Core.Bool.{false, true≢false}
+use mathlib.Core.Bool.{true, false, true≢false}
 use mathlib.Core.List.{List}
 use mathlib.Core.Logic.{⊎-elim}
-use Prim.Native.Nat.{ℕ, _≤_, _<_}
+use Prim.Native.Nat.{ℕ, _*_, _≤_, _<_}
 use native.Mathlib.Omega.{arith}
-use borrow.Author.Tests.{ltb-false, le-ltb, eq-eqb, ne-eqb}
-use lib.Dec.{eqb}
+use borrow.Author.Tests.{ltb-false, leb-false, lt-ltb, le-ltb, le-leb, lt-leb, eq-eqb, ne-eqb}
+use lib.Dec.{ltb, eqb}
 use lib.ListN.{length, take, getD, length-take, List·getD-eq-default}
 use lib.Seq.{getD-take}
 use Rattle.lines.proofs.Values.{lt-or-ge}
 use Rattle.table.proofs.FirstLaws.{some-none, some-all}
 use Rattle.climb.proofs.Lists.{or-false-is}
 use Rattle.update.proofs.Within.{short-means}
-use Rattle.owing.specs.Owed.{Begun}
+use Rattle.tree.specs.Handed.{announced}
+use Rattle.owing.specs.Owed.{Begun, NamedSoFar, namedIn}
 use Rattle.desk.specs.Desk.{Desk, Wide}
-use Rattle.desk.specs.Refusals.{narrow, overrun}
-use Rattle.desk.specs.Refused.{NarrowMeans, OverrunMeans}
+use Rattle.desk.specs.Refusals.{narrow, overrun, misnamed}
+use Rattle.desk.specs.Refused.{NarrowMeans, OverrunMeans, MisnamedMeans}
 
 wide : (d : Desk) (out : List ℕ) → narrow d out ≡ false → Wide (d .words) (d .window) (d .parts) (d .partOwns) (d .memory) out
 unfolding narrow
@@ -30,7 +31,7 @@ wide d out h =
       words-room = ltb-false (length (d .words)) 2657 (f .0);
       window-room = ltb-false (length (d .window)) 29 (f .1);
       parts-room = ltb-false (length (d .parts)) 513 (e .1);
-      owns-room = ltb-false (length (d .partOwns)) 513 (c .1);
+      owns-room = ltb-false (length (d .partOwns)) 521 (c .1);
       room = short-means (d .memory) .0 (b .1);
       out-room = ltb-false (length out) 131072 (a .1);
     }
@@ -41,7 +42,7 @@ not-narrow d out w = rw (
   le-ltb (length (d .words)) 2657 (w .words-room),
   le-ltb (length (d .window)) 29 (w .window-room),
   le-ltb (length (d .parts)) 513 (w .parts-room),
-  le-ltb (length (d .partOwns)) 513 (w .owns-room),
+  le-ltb (length (d .partOwns)) 521 (w .owns-room),
   short-means (d .memory) .1 (w .room),
   le-ltb (length out) 131072 (w .out-room),
 )
@@ -78,3 +79,33 @@ module _ (begun : ℕ) (window : List ℕ) where
 
 pub overrun-means : OverrunMeans
 overrun-means begun window = (line begun window, not-overrun begun window)
+
+-- ---- the points that have come
+
+module _ (count taken : ℕ) (os : List ℕ) where
+  named-so-far : misnamed count taken os ≡ false → NamedSoFar count taken os
+  unfolding misnamed
+  named-so-far h =
+      let a = or-false-is h in
+      let b = or-false-is (a .0) in
+      record { more = leb-false count taken (b .0); few = ltb-false 255 count (b .1); nodes = ltb-false (65535 * taken) (announced (namedIn taken os)) (a .1) }
+
+  not-misnamed : NamedSoFar count taken os → misnamed count taken os ≡ false
+  unfolding misnamed
+  not-misnamed n = rw (lt-leb count taken (n .more), le-ltb 255 count (n .few), le-ltb (65535 * taken) (announced (namedIn taken os)) (n .nodes))
+
+  -- as the code tests it
+  pub none-to-come : count ≤ taken → true ≡ misnamed count taken os
+  unfolding misnamed
+  none-to-come h = rw (le-leb count taken h)
+
+  pub too-many : taken < count → 255 < count → true ≡ misnamed count taken os
+  unfolding misnamed
+  too-many h k = rw (lt-leb count taken h, lt-ltb 255 count k)
+
+  pub by-nodes : taken < count → count ≤ 255 → (n : ℕ) → n ≡ announced (namedIn taken os) → ltb (65535 * taken) n ≡ misnamed count taken os
+  unfolding misnamed
+  by-nodes h k n e = rw (lt-leb count taken h, le-ltb 255 count k, e)
+
+pub misnamed-means : MisnamedMeans
+misnamed-means count taken os = (named-so-far count taken os, not-misnamed count taken os)

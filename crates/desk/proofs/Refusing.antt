@@ -22,16 +22,16 @@ use Rattle.update.proofs.Refusing.{all-exactly}
 use Rattle.update.proofs.Within.{short-means, beyond-means}
 use Rattle.judging.specs.Order.{Holding}
 use Rattle.judging.proofs.Orders.{or-zero, going, step-none}
-use Rattle.owing.specs.Owed.{Sound}
+use Rattle.owing.specs.Owed.{Sound, NamedSoFar}
 use Rattle.owing.specs.declared.Order.{Order}
 use Rattle.owing.specs.declared.Mode.{Mode}
-use Rattle.owing.specs.declared.Mode.the-variants.{Table, Command, Nodes, Working, Stopped}
+use Rattle.owing.specs.declared.Mode.the-variants.{Table, Command, Naming, Nodes, Working, Stopped}
 use Rattle.frames.specs.declared.Expected.{Expected}
 use Rattle.desk.specs.Desk.{Desk, Wide, tableOf}
-use Rattle.desk.specs.Refusals.{narrow, overrun, sofarRefusal, keptNumbers, modeRefusal, settledNumbers, stateRefusal}
+use Rattle.desk.specs.Refusals.{narrow, overrun, misnamed, sofarRefusal, keptNumbers, modeRefusal, settledNumbers, stateRefusal}
 use Rattle.desk.specs.Refused.{By1to5, By6or7, By11, By16, By17, StateGives, AllStateGives}
 use Rattle.desk.proofs.Arriving.{sofar-none, none-sofar, stops-to, stops-from, ends-to, ends-from, sofar-low}
-use Rattle.desk.proofs.Meaning.{narrow-means, overrun-means}
+use Rattle.desk.proofs.Meaning.{narrow-means, overrun-means, misnamed-means}
 
 -- ---- the numbers that are given at all
 
@@ -57,15 +57,49 @@ off k f g = (λ h. absurd (f h), λ a. absurd (g a))
 
 -- ---- by what is waited for
 
-record ModeGives (mode : Mode) (t : List ℕ) (m : Memory) (r : Record) (given : ℕ) : Type 0 where
-  by15 : given ≡ 15 → short m ≡ true
-  by11 : (given ≡ 11) ↔ By11 mode t m r
-  by1to5 : (n : ℕ) → 1 ≤ n → n ≤ 5 → (given ≡ n) ↔ By1to5 mode t m r n
-  by6or7 : (n : ℕ) → 6 ≤ n → n ≤ 7 → (given ≡ n) ↔ By6or7 mode t m r n
-  by16 : (given ≡ 16) ↔ By16 mode t m r
-  by17 : (given ≡ 17) ↔ By17 mode t m r
-  by0 : (given ≡ 0) ↔ Sound mode t m r
+-- a number, and what it is given by
+record Gives (Short A11 : Type 0) (A1to5 A6or7 : ℕ → Type 0) (A16 A17 A0 : Type 0) (given : ℕ) : Type 0 where
+  by15 : given ≡ 15 → Short
+  by11 : (given ≡ 11) ↔ A11
+  by1to5 : (n : ℕ) → 1 ≤ n → n ≤ 5 → (given ≡ n) ↔ A1to5 n
+  by6or7 : (n : ℕ) → 6 ≤ n → n ≤ 7 → (given ≡ n) ↔ A6or7 n
+  by16 : (given ≡ 16) ↔ A16
+  by17 : (given ≡ 17) ↔ A17
+  by0 : (given ≡ 0) ↔ A0
   all : member numbers given ≡ true
+
+abbrev ModeGives : Mode → List ℕ → List ℕ → Memory → Record → ℕ → Type 0
+ModeGives mode t os m r given =
+    Gives (short m ≡ true) (By11 mode t os m r) (By1to5 mode t os m r) (By6or7 mode t os m r) (By16 mode t os m r) (By17 mode t os m r) (Sound mode t os m r) given
+
+-- 11 comes first, where N holds; else P does, which Q says in other words, and what was given is given still
+module _ (Short A11 : Type 0) (A1to5 A6or7 : ℕ → Type 0) (A0 N P Q : Type 0) where
+  abbrev Guarded : ℕ → Type 0
+  Guarded given = Gives Short (N ⊎ (P and A11)) (λ n. P and A1to5 n) (λ n. P and A6or7 n) ⊥ ⊥ (A0 × Q) given
+
+  stopped : N → (P → ⊥) → (Q → ⊥) → Guarded 11
+  stopped h f g = record {
+    by15 = λ e. absurd (omega arith);
+    by11 = (λ e. inl h, λ w. refl);
+    by1to5 = λ n l u. off n (λ e. omega arith) (λ w. f (w .0));
+    by6or7 = λ n l u. off n (λ e. omega arith) (λ w. f (w .0));
+    by16 = off 16 (λ e. omega arith) (λ z. z);
+    by17 = off 17 (λ e. omega arith) (λ z. z);
+    by0 = off 0 (λ e. omega arith) (λ w. g (w .1));
+    all = refl;
+  }
+
+  passed : (given : ℕ) → (N → ⊥) → P → Q → Gives Short A11 A1to5 A6or7 ⊥ ⊥ A0 given → Guarded given
+  passed given n h q g = record {
+    by15 = g .by15;
+    by11 = (λ e. inr (h, g .by11 .0 e), ⊎-elim (λ k. absurd (n k)) (λ w. g .by11 .1 (w .1)));
+    by1to5 = λ n l u. (λ e. (h, g .by1to5 n l u .0 e), λ w. g .by1to5 n l u .1 (w .1));
+    by6or7 = λ n l u. (λ e. (h, g .by6or7 n l u .0 e), λ w. g .by6or7 n l u .1 (w .1));
+    by16 = g .by16;
+    by17 = g .by17;
+    by0 = (λ e. (g .by0 .0 e, q), λ w. g .by0 .1 (w .0));
+    all = g .all;
+  }
 
 -- in a table
 table-among : (n : ℕ) → (n ≤ 5) ⊎ (n ≡ 11) → member numbers n ≡ true
@@ -74,11 +108,11 @@ table-among n = ⊎-elim
     (λ (l : n ≤ 5). in-wider (0 ∷ 1 ∷ 2 ∷ 3 ∷ 4 ∷ 5 ∷ []) numbers n refl (in-upFrom 6 0 n (omega arith) (omega arith)))
     (λ (e : n ≡ 11). rw e)
 
-module _ (t : List ℕ) (y : Expected) (m : Memory) (r : Record) where
+module _ (t os : List ℕ) (y : Expected) (m : Memory) (r : Record) where
   never : (k : ℕ) → 5 < k → (k ≡ 11 → ⊥) → sofarRefusal t y ≡ k → ⊥
   never k l n h = ⊎-elim (λ (u : sofarRefusal t y ≤ 5). omega arith) (λ (e : sofarRefusal t y ≡ 11). n (sym h ∙ e)) (sofar-low t y)
 
-  in-table : ModeGives (Table y) t m r (sofarRefusal t y)
+  in-table : ModeGives (Table y) t os m r (sofarRefusal t y)
   in-table = record {
     by15 = λ h. absurd (never 15 (omega arith) (λ e. omega arith) h);
     by11 = (ends-to t y, ends-from t y);
@@ -91,7 +125,7 @@ module _ (t : List ℕ) (y : Expected) (m : Memory) (r : Record) where
   }
 
 -- between commands
-module _ (t : List ℕ) (m : Memory) (r : Record) where
+module _ (t os : List ℕ) (m : Memory) (r : Record) where
   abbrev kept : ℕ
   kept = firstRefusal (keptNumbers t m r)
 
@@ -113,7 +147,7 @@ module _ (t : List ℕ) (m : Memory) (r : Record) where
   unfolding first
   kept-none h = rw h
 
-  tree-held : r .held ≡ true → ModeGives Command t m r (firstRefusal (numbersOf holds))
+  tree-held : r .held ≡ true → ModeGives Command t os m r (firstRefusal (numbersOf holds))
   tree-held h = record {
     by15 = number holds refl 15 refl .0;
     by11 = number holds refl 11 refl;
@@ -125,7 +159,7 @@ module _ (t : List ℕ) (m : Memory) (r : Record) where
     all = in-wider (0 ∷ listed holds) numbers (firstRefusal (numbersOf holds)) refl (among holds);
   }
 
-  none-held : r .held ≡ false → ModeGives Command t m r (firstRefusal (numbersOf lacks))
+  none-held : r .held ≡ false → ModeGives Command t os m r (firstRefusal (numbersOf lacks))
   none-held h = record {
     by15 = number lacks refl 15 refl .0;
     by11 = number lacks refl 11 refl;
@@ -137,57 +171,56 @@ module _ (t : List ℕ) (m : Memory) (r : Record) where
     all = in-wider (0 ∷ listed lacks) numbers (firstRefusal (numbersOf lacks)) refl (among lacks);
   }
 
-  between : ModeGives Command t m r kept
+  between : ModeGives Command t os m r kept
   between = ⊎-elim
-      (λ (h : r .held ≡ true). subst (λ (k : ℕ). ModeGives Command t m r k) (sym (kept-held h)) (tree-held h))
-      (λ (h : r .held ≡ false). subst (λ (k : ℕ). ModeGives Command t m r k) (sym (kept-none h)) (none-held h))
+      (λ (h : r .held ≡ true). subst (λ (k : ℕ). ModeGives Command t os m r k) (sym (kept-held h)) (tree-held h))
+      (λ (h : r .held ≡ false). subst (λ (k : ℕ). ModeGives Command t os m r k) (sym (kept-none h)) (none-held h))
       (either (r .held))
 
-  -- among a command's nodes
+  -- among a command's points
+  module _ (count taken line : ℕ) where
+    abbrev naming : Mode
+    naming = Naming count taken line
+
+    unnamed : misnamed count taken os ≡ true → modeRefusal naming t os m r ≡ 11
+    unfolding modeRefusal first
+    unnamed h = rw h
+
+    named : misnamed count taken os ≡ false → modeRefusal naming t os m r ≡ kept
+    unfolding modeRefusal first
+    named h = rw h
+
+    among-points : ModeGives naming t os m r (modeRefusal naming t os m r)
+    among-points = ⊎-elim
+        (λ (h : misnamed count taken os ≡ true).
+        let no : misnamed count taken os ≡ false → ⊥ = λ e. true≢false (sym h ∙ e) in
+        subst (λ (k : ℕ). ModeGives naming t os m r k) (sym (unnamed h)) (stopped _ _ _ _ _ _ _ _ h no (λ q. no (misnamed-means count taken os .1 q))))
+        (λ (h : misnamed count taken os ≡ false).
+        subst (λ (k : ℕ). ModeGives naming t os m r k) (sym (named h))
+        (passed _ _ _ _ _ _ _ _ kept (λ e. true≢false (sym e ∙ h)) h (misnamed-means count taken os .0 h) between))
+        (either (misnamed count taken os))
+
+  -- among its nodes
   module _ (order : Order) (count taken line : ℕ) where
     abbrev here : Mode
     here = Nodes order count taken line
 
-    no-node : count ≤ taken → ModeGives here t m r 11
-    no-node h = record {
-      by15 = λ e. absurd (omega arith);
-      by11 = (λ e. inl h, λ w. refl);
-      by1to5 = λ n l u. off n (λ e. omega arith) (λ w. let k = w .0 in omega arith);
-      by6or7 = λ n l u. off n (λ e. omega arith) (λ w. let k = w .0 in omega arith);
-      by16 = off 16 (λ e. omega arith) (λ z. z);
-      by17 = off 17 (λ e. omega arith) (λ z. z);
-      by0 = off 0 (λ e. omega arith) (λ w. let k = w .1 in omega arith);
-      all = refl;
-    }
-
-    a-node : taken < count → ModeGives here t m r kept
-    a-node h = let g = between in record {
-      by15 = g .by15;
-      by11 = (λ e. inr (h, g .by11 .0 e), ⊎-elim (λ (k : count ≤ taken). absurd (omega arith)) (λ w. g .by11 .1 (w .1)));
-      by1to5 = λ n l u. (λ e. (h, g .by1to5 n l u .0 e), λ w. g .by1to5 n l u .1 (w .1));
-      by6or7 = λ n l u. (λ e. (h, g .by6or7 n l u .0 e), λ w. g .by6or7 n l u .1 (w .1));
-      by16 = g .by16;
-      by17 = g .by17;
-      by0 = (λ e. (g .by0 .0 e, h), λ w. g .by0 .1 (w .0));
-      all = g .all;
-    }
-
-    node-none : count ≤ taken → modeRefusal here t m r ≡ 11
+    node-none : count ≤ taken → modeRefusal here t os m r ≡ 11
     unfolding modeRefusal first
     node-none h = rw (le-leb count taken h)
 
-    node-comes : taken < count → modeRefusal here t m r ≡ kept
+    node-comes : taken < count → modeRefusal here t os m r ≡ kept
     unfolding modeRefusal first
     node-comes h = rw (lt-leb count taken h)
 
-    among-nodes : ModeGives here t m r (modeRefusal here t m r)
+    among-nodes : ModeGives here t os m r (modeRefusal here t os m r)
     among-nodes = ⊎-elim
-        (λ (h : taken < count). subst (λ (k : ℕ). ModeGives here t m r k) (sym (node-comes h)) (a-node h))
-        (λ (h : count ≤ taken). subst (λ (k : ℕ). ModeGives here t m r k) (sym (node-none h)) (no-node h))
+        (λ (h : taken < count). subst (λ (k : ℕ). ModeGives here t os m r k) (sym (node-comes h)) (passed _ _ _ _ _ _ _ _ kept (λ k. omega arith) h h between))
+        (λ (h : count ≤ taken). subst (λ (k : ℕ). ModeGives here t os m r k) (sym (node-none h)) (stopped _ _ _ _ _ _ _ _ h (λ k. omega arith) (λ k. omega arith)))
         (lt-or-ge taken count)
 
   -- at work
-  at-work : (turns : ℕ) → ModeGives (Working turns) t m r (stepRefusal t m r)
+  at-work : (turns : ℕ) → ModeGives (Working turns) t os m r (stepRefusal t m r)
   at-work turns = let g = all-exactly t m r .step in record {
     by15 = g .by15 .0;
     by11 = g .early .by11;
@@ -199,7 +232,7 @@ module _ (t : List ℕ) (m : Memory) (r : Record) where
     all = in-wider (0 ∷ 15 ∷ 1 ∷ 2 ∷ 3 ∷ 4 ∷ 5 ∷ 11 ∷ 16 ∷ 6 ∷ 7 ∷ 17 ∷ []) numbers (stepRefusal t m r) refl (g .among);
   }
 
-  over : ModeGives Stopped t m r 0
+  over : ModeGives Stopped t os m r 0
   over = record {
     by15 = λ e. absurd (omega arith);
     by11 = off 11 (λ e. omega arith) (λ z. z);
@@ -211,10 +244,11 @@ module _ (t : List ℕ) (m : Memory) (r : Record) where
     all = refl;
   }
 
-  by-mode : (mode : Mode) → ModeGives mode t m r (modeRefusal mode t m r)
+  by-mode : (mode : Mode) → ModeGives mode t os m r (modeRefusal mode t os m r)
   unfolding modeRefusal
-  by-mode (Table x) = in-table t x m r
+  by-mode (Table x) = in-table t os x m r
   by-mode Command = between
+  by-mode (Naming count taken line) = among-points count taken line
   by-mode (Nodes order count taken line) = among-nodes order count taken line
   by-mode (Working turns) = at-work turns
   by-mode Stopped = over
@@ -223,7 +257,7 @@ module _ (t : List ℕ) (m : Memory) (r : Record) where
 
 module _ (d : Desk) (out : List ℕ) where
   abbrev waited : ℕ
-  waited = modeRefusal (d .state .mode) (tableOf d) (d .memory) (d .state .«record»)
+  waited = modeRefusal (d .state .mode) (tableOf d) (d .partOwns) (d .memory) (d .state .«record»)
 
   abbrev line : Bool
   line = overrun (d .state .begun) (d .window)
@@ -236,7 +270,7 @@ module _ (d : Desk) (out : List ℕ) where
   pub given-short : (Wide (d .words) (d .window) (d .parts) (d .partOwns) (d .memory) out → ⊥) → stateRefusal d out ≡ 15
   given-short n = ⊎-elim (λ (h : narrow d out ≡ true). given-narrow h) (λ (h : narrow d out ≡ false). absurd (n (narrow-means d out .0 h))) (either (narrow d out))
 
-  pub given-wide : Wide (d .words) (d .window) (d .parts) (d .partOwns) (d .memory) out → stateRefusal d out ≡ firstRefusal (settledNumbers (d .state) (tableOf d) (d .window) (d .memory))
+  pub given-wide : Wide (d .words) (d .window) (d .parts) (d .partOwns) (d .memory) out → stateRefusal d out ≡ firstRefusal (settledNumbers (d .state) (tableOf d) (d .window) (d .partOwns) (d .memory))
   unfolding stateRefusal first
   given-wide w = rw (narrow-means d out .1 w)
 
@@ -278,7 +312,7 @@ module _ (d : Desk) (out : List ℕ) where
 
   by-waited : narrow d out ≡ false → line ≡ false → StateGives d out waited
   by-waited h k =
-      let g = by-mode (tableOf d) (d .memory) (d .state .«record») (d .state .mode) in
+      let g = by-mode (tableOf d) (d .partOwns) (d .memory) (d .state .«record») (d .state .mode) in
       let w = narrow-means d out .0 h in
       record {
         by15 = off 15 (λ e. true≢false (sym (g .by15 e) ∙ short-means (d .memory) .1 (w .room))) (λ o. true≢false (sym o ∙ h));

@@ -12,7 +12,7 @@ use Rattle.owing.specs.Owed.{owed, Sound, Begun}
 use Rattle.owing.specs.declared.Mode.the-variants.{Table}
 use Rattle.desk.specs.declared.State.{State}
 
--- the table's words, the begun line's bytes, the nodes that have come with their own sets, and the engine's four buffers
+-- the table's words, the begun line's bytes, the nodes that have come with their own sets and the points' words, and the engine's four buffers
 pub record Desk : Type 0 where
   pub state : State
   pub words : List ℕ
@@ -44,12 +44,12 @@ lineOf d = take (d .state .begun) (d .window)
 abbrev pub owedFor : Desk → List ℕ → List ℕ
 owedFor d s = owed (d .state .mode) (tableOf d) (d .parts) (d .partOwns) (d .memory) (d .state .«record») (d .state .line) (lineOf d ++ s)
 
--- every buffer is long enough: a table, a line, more nodes than a tree may have, the engine's, and room to print what a line can print
+-- every buffer is long enough: a table, a line, more nodes than a tree may have and behind their own sets eight points, the engine's, and room to print what a line can print
 pub record Wide (words window parts partOwns : List ℕ) (m : Memory) (out : List ℕ) : Type 0 where
   pub words-room : 2657 ≤ length words
   pub window-room : 29 ≤ length window
   pub parts-room : 513 ≤ length parts
-  pub owns-room : 513 ≤ length partOwns
+  pub owns-room : 521 ≤ length partOwns
   pub room : Roomy m
   pub out-room : 131072 ≤ length out
 
@@ -58,7 +58,7 @@ pub record Fits (d : Desk) (out : List ℕ) : Type 0 where
   pub wide : Wide (d .words) (d .window) (d .parts) (d .partOwns) (d .memory) out
   pub begun : d .state .begun ≤ 28
   pub line : Begun (lineOf d)
-  pub sound : Sound (d .state .mode) (tableOf d) (d .memory) (d .state .«record»)
+  pub sound : Sound (d .state .mode) (tableOf d) (d .partOwns) (d .memory) (d .state .«record»)
 
 -- a test that is true exactly where P holds
 pub record Tests (b : Bool) (P : Type 0) : Type 0 where

@@ -13,7 +13,7 @@ use Rattle.planting.specs.Written.{writtenOf, bufferAfter}
 use Rattle.planting.specs.Writes.{Writes}
 use Rattle.owing.specs.Laws.{endText}
 use Rattle.owing.specs.declared.Mode.{Mode}
-use Rattle.owing.specs.declared.Mode.the-variants.{Table, Command, Nodes, Working, Stopped}
+use Rattle.owing.specs.declared.Mode.the-variants.{Table, Command, Naming, Nodes, Working, Stopped}
 use Rattle.desk.specs.declared.State.{State}
 
 abbrev pub lastText : State → List ℕ
@@ -23,6 +23,7 @@ lastText s = endText (s .mode) (s .begun) (s .line)
 abbrev pub working : Mode → Bool
 working (Table x) = false
 working Command = false
+working (Naming count taken command) = false
 working (Nodes order count taken command) = false
 working (Working turns) = true
 working Stopped = false
@@ -42,6 +43,7 @@ FinishSays s out a out′ = (a ≡ finished s out) × (out′ ≡ finishedOut s 
 abbrev pub inside : Mode → Bool
 inside (Table x) = true
 inside Command = false
+inside (Naming count taken command) = true
 inside (Nodes order count taken command) = true
 inside (Working turns) = false
 inside Stopped = false

@@ -29,6 +29,7 @@ fn is_inside(mode: Mode) -> bool
     match mode {
         Mode::Table(expected) => true,
         Mode::Command => false,
+        Mode::Naming { count, taken, line } => true,
         Mode::Nodes {
             order,
             count,
@@ -47,6 +48,7 @@ fn is_working(mode: Mode) -> bool
     match mode {
         Mode::Table(expected) => false,
         Mode::Command => false,
+        Mode::Naming { count, taken, line } => false,
         Mode::Nodes {
             order,
             count,

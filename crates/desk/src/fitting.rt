@@ -9,6 +9,7 @@ use frames::next_of;
 use judging::judge_ground;
 use judging::judge_holding;
 use judging::judge_step;
+use naming::announced_in;
 use owing::Mode;
 use refusal::Refusal;
 use refusal::Verdict;
@@ -24,9 +25,17 @@ ghost use Rattle.texts.specs.Read.{Awaits};
 ghost use Rattle.judging.specs.Lent.{lent};
 ghost use Rattle.owing.specs.Owed.{Begun};
 ghost use Rattle.desk.specs.Desk.{Wide, Tests};
-ghost use Rattle.desk.specs.Refusals.{frameRefusal, sofarRefusal, keptNumbers, settledNumbers};
+ghost use Rattle.desk.specs.Refusals.{frameRefusal, sofarRefusal, misnamed, keptNumbers, settledNumbers};
 
-// A buffer is shorter than a line, a command's nodes, a table, the engine or what a line can print asks for.
+// The own sets of a command's nodes and the words for its points.
+const OWNS: usize = 521;
+
+// No command's first line announces more points, and no point's line more nodes.
+const POINTS: usize = 255;
+
+const NODES: usize = 65_535;
+
+// A buffer is shorter than a line, a command's nodes and points, a table, the engine or what a line can print asks for.
 pub fn is_narrow(
     words: &[u64],
     window: &[u8],
@@ -49,7 +58,7 @@ pub fn is_narrow(
     if parts.len() < 513 {
         return true;
     }
-    if part_owns.len() < 513 {
+    if part_owns.len() < OWNS {
         return true;
     }
     if held.len() < 512 {
@@ -161,6 +170,20 @@ fn judge_so_far(table: &[u64; 2657], expected: Expected) -> Verdict
     Verdict::Refused(Refusal::Fields)
 }
 
+// 11: whether no lines name so many points with so many nodes.
+fn is_misnamed(count: usize, taken: usize, part_owns: &[u64]) -> bool
+    requires { ⌜ 521 ≤ length (now «part_owns») ⌝ }
+    ensures { λ r. ⌜ r ≡ misnamed count taken (now («part_owns» .entry)) ⌝ }
+{
+    if count <= taken {
+        return true;
+    }
+    if POINTS < count {
+        return true;
+    }
+    NODES * taken < announced_in(part_owns, taken)
+}
+
 // The held tree, if there is one.
 fn judge_kept(
     table: &[u64; 2657],
@@ -188,13 +211,14 @@ pub fn judge_state(
     table: &[u64; 2657],
     state: State,
     window: &[u8],
+    part_owns: &[u64],
     held: &[u8],
     held_owns: &[u64],
     sets: &[u64],
     before: &[u64],
 ) -> Verdict
-    requires { ⌜ 29 ≤ length (now window) ⌝ }
-    ensures { λ r. ⌜ verdictOf r ≡ firstRefusal (settledNumbers state (now (table .entry)) (now (window .entry)) (lent (now (held .entry)) (now («held_owns» .entry)) (now (sets .entry)) (now (before .entry)))) ⌝ }
+    requires { ⌜ (29 ≤ length (now window)) × (521 ≤ length (now «part_owns»)) ⌝ }
+    ensures { λ r. ⌜ verdictOf r ≡ firstRefusal (settledNumbers state (now (table .entry)) (now (window .entry)) (now («part_owns» .entry)) (lent (now (held .entry)) (now («held_owns» .entry)) (now (sets .entry)) (now (before .entry)))) ⌝ }
 {
     if !is_begun(window, state.begun) {
         return Verdict::Refused(Refusal::Fields);
@@ -204,6 +228,12 @@ pub fn judge_state(
     match mode {
         Mode::Table(expected) => judge_so_far(table, expected),
         Mode::Command => judge_kept(table, record, held, held_owns, sets, before),
+        Mode::Naming { count, taken, line } => {
+            if is_misnamed(count, taken, part_owns) {
+                return Verdict::Refused(Refusal::Fields);
+            }
+            judge_kept(table, record, held, held_owns, sets, before)
+        }
         Mode::Nodes {
             order,
             count,

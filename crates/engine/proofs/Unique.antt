@@ -11,6 +11,7 @@ use Rattle.refusal.proofs.Fitting.{only-equal, only-said, only-verdict}
 use Rattle.sets.specs.Members.{membersOf, countOf}
 use Rattle.sets.specs.Operations.{valueOf}
 use Rattle.table.specs.Judge.{judgeTable}
+use Rattle.tree.specs.Handed.{namedPoints, handedRow}
 use Rattle.tree.specs.Refusals.{treeRefusal}
 use Rattle.update.specs.declared.Record.{Record}
 use Rattle.update.specs.declared.Answer.{Answer}
@@ -22,7 +23,7 @@ use Rattle.update.specs.declared.Reading.the-variants.{Set, Refused as ReadRefu
 use Rattle.update.specs.Memories.{Memory}
 use Rattle.update.specs.Records.{emptyRecord}
 use Rattle.update.specs.Steps.{Outcome, round, done, Ending, paused, finished}
-use Rattle.update.specs.Calls.{Said, refused, said, answerSays, Ranged, runSays, readingSays, Left, Opened, is-open, loadCall, replaceCall, stepCall, runCall, readCall}
+use Rattle.update.specs.Calls.{Said, refused, said, answerSays, Ranged, runSays, readingSays, Left, Opened, is-open, loadCall, pointsCall, replaceCall, stepCall, runCall, readCall}
 use Rattle.steps.specs.declared.step.Stepped.{Stepped}
 use Rattle.steps.specs.declared.run.Advanced.{Advanced}
 use Rattle.opens.specs.declared.Begun.{Begun}
@@ -117,6 +118,8 @@ pub every-leaves-one : EveryLeavesOne
 every-leaves-one t held owns sets before r = record {
   load = λ ns newOwns. only-said (λ x. begun (x .answer) (x .found)) begunBack begun-back (loadCall t (lent held owns sets before) r ns newOwns);
   replace = λ point ns newOwns. only-said (λ x. begun (x .answer) (x .found)) begunBack begun-back (replaceCall t (lent held owns sets before) r point ns newOwns);
+  replace-points = λ points ns newOwns.
+      only-said (λ x. begun (x .answer) (x .found)) begunBack begun-back (pointsCall t (lent held owns sets before) r (handedRow (namedPoints points) ns newOwns));
   step = only-said (λ x. stepped (x .answer .answer) (x .answer .«record») (lent held owns (x .found) before)) steppedBack (stepped-back held owns before)
       (stepCall t (lent held owns sets before) r);
   run = run-one t held owns sets before r;

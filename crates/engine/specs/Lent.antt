@@ -9,7 +9,7 @@ use Rattle.update.specs.declared.Record.{Record}
 use Rattle.update.specs.declared.Answer.{Answer}
 use Rattle.update.specs.declared.Run.{Run}
 use Rattle.update.specs.declared.Reading.{Reading}
-pub use Rattle.opens.specs.Lent.{lent, openedSays, begun, LoadLeaves, ReplaceLeaves}
+pub use Rattle.opens.specs.Lent.{lent, openedSays, begun, LoadLeaves, PointsLeave, ReplaceLeaves}
 
 -- a step's
 abbrev pub stepped : Answer → Record → Memory → Left (Said Outcome)

@@ -9,6 +9,7 @@ use Rattle.sets.specs.declared.Equation.{Equation}
 use Rattle.sets.specs.Members.{MembersSay, CountSays}
 use Rattle.sets.specs.Operations.{ValueSays}
 use Rattle.table.specs.Judge.{JudgeTableSays}
+use Rattle.tree.specs.declared.Places.{Places}
 use Rattle.tree.specs.Refusals.{JudgeTreeSays}
 use Rattle.update.specs.declared.Record.{Record}
 use Rattle.update.specs.Memories.{Memory}
@@ -16,7 +17,7 @@ use Rattle.update.specs.Records.{EmptySays}
 use Rattle.steps.specs.declared.step.Stepped.{Stepped}
 use Rattle.steps.specs.declared.run.Advanced.{Advanced}
 use Rattle.opens.specs.declared.Begun.{Begun}
-use Rattle.engine.specs.Lent.{lent, LoadLeaves, ReplaceLeaves, StepLeaves, RunLeaves, ReadSays}
+use Rattle.engine.specs.Lent.{lent, LoadLeaves, PointsLeave, ReplaceLeaves, StepLeaves, RunLeaves, ReadSays}
 
 -- ---- the calls that leave nothing but their answer
 
@@ -31,12 +32,14 @@ pub record AnswersOne : Type 0 where
 
 -- ---- the engine's calls, of any table, memory and record: answer, record and what is found in the buffers that the call may write
 
--- `load` and `replace` may write all four (`Begun` is the answer with the record); `step` and `run` the sets (`Stepped` and `Advanced` likewise; a run over a
+-- `load`, `replace` and `replace_points` may write all four (`Begun` is the answer with the record); `step` and `run` the sets (`Stepped` and `Advanced` likewise; a run over a
 -- lent record and one by value promise the same); `read` none
 pub record LeavesOne (t held owns sets before : List ℕ) (r : Record) : Type 0 where
   pub load : (ns newOwns : List ℕ) → Only (λ (x : After Begun Memory). LoadLeaves t (lent held owns sets before) r ns newOwns (x .answer) (x .found))
   pub replace : (point : ℕ) (ns newOwns : List ℕ)
       → Only (λ (x : After Begun Memory). ReplaceLeaves t (lent held owns sets before) r point ns newOwns (x .answer) (x .found))
+  pub replace-points : (points : Places) (ns newOwns : List ℕ)
+      → Only (λ (x : After Begun Memory). PointsLeave t (lent held owns sets before) r points ns newOwns (x .answer) (x .found))
   pub step : Only (λ (x : After Stepped (List ℕ)). StepLeaves t held owns sets before r (x .answer .answer) (x .answer .«record») (x .found))
   pub run : (budget : ℕ) → Only (λ (x : After Advanced (List ℕ)). RunLeaves t held owns sets before r budget (x .answer .answer) (x .answer .«record») (x .found))
   pub read : (x : ℕ) → Only (ReadSays t (lent held owns sets before) r x)

@@ -13,13 +13,13 @@ use Rattle.lines.specs.declared.Line.{Line}
 use Rattle.lines.specs.declared.Line.the-variants.{Digits, Bad, End}
 use Rattle.lines.proofs.Window.{Alike, num-alike, alike-behind, alike-ahead, line-behind, line-ahead}
 use Rattle.lines.proofs.Fields.{line-back, line-length, field-back}
-use Rattle.frames.specs.Frames.{headerOf, symbolOf, productionOf, equationOf, nodeOf, loadOf, replaceOf, dumpOf, kindOf, frameOf, stepOf, frameAt, lineAfter, childAt}
+use Rattle.frames.specs.Frames.{headerOf, symbolOf, productionOf, equationOf, nodeOf, loadOf, replaceOf, dumpOf, correctionsOf, correctionOf, kindOf, frameOf, stepOf, frameAt, lineAfter, childAt}
 use Rattle.frames.specs.Text.{fieldsOf, textOf}
 use Rattle.frames.specs.Laws.{shifted, Windows, Kids, Fits, Back}
 use Rattle.frames.specs.declared.Children.{Children}
 use Rattle.frames.specs.declared.Step.{Step}
 use Rattle.frames.specs.declared.Frame.{Frame}
-use Rattle.frames.specs.declared.Frame.the-variants.{Header, Symbol, Production, Equation, Node, Load, Replace, Dump, Refused, Over}
+use Rattle.frames.specs.declared.Frame.the-variants.{Header, Symbol, Production, Equation, Node, Load, Replace, Dump, Corrections, Correction, Refused, Over}
 
 -- two texts that read alike from two places on make the same frames there
 module _ (s t : List ℕ) (a b : ℕ) where
@@ -27,7 +27,7 @@ module _ (s t : List ℕ) (a b : ℕ) where
   same h k o i = num-alike s t a b k o (λ j l. h j (omega arith))
 
   frame-alike : (n line : ℕ) → Alike s t a b 28 → frameOf s a n line ≡ frameOf t b n line
-  unfolding frameOf kindOf headerOf symbolOf productionOf equationOf nodeOf loadOf replaceOf
+  unfolding frameOf kindOf headerOf symbolOf productionOf equationOf nodeOf loadOf replaceOf correctionsOf correctionOf
   frame-alike n line h =
       let e0 : numAt 2 s a ≡ numAt 2 t b = ap (numAt 2 s) (sym (add-zero a)) ∙ same h 2 0 (lit≤ tt) ∙ ap (numAt 2 t) (add-zero b) in
       simp (e0, same h 2 2 (lit≤ tt), same h 2 4 (lit≤ tt), same h 2 6 (lit≤ tt), same h 2 8 (lit≤ tt), same h 2 10 (lit≤ tt), same h 2 12 (lit≤ tt), same h 4 2 (lit≤ tt), same h 4 6 (lit≤ tt), same h 16 4 (lit≤ tt), same h 16 12 (lit≤ tt))
@@ -117,6 +117,27 @@ dump-back rest line =
     rw (line-back (fieldsOf (Dump)) rest (lit≤ tt) (lit≤ tt) refl, w)
     (simp (field-back [] (byte 8) [] rest (lit< tt)))
 
+corrections-back : (n : ℕ) → n < 2 ^ 8 → (rest : List ℕ) (line : ℕ) → frameAt (textOf (Corrections n) ++ rest) 0 line ≡ record { frame = Corrections n; place = length (textOf (Corrections n)); line = lineAfter line }
+unfolding frameAt frameOf kindOf correctionsOf textOf fieldsOf
+corrections-back n h rest line =
+    let w = line-length (fieldsOf (Corrections n)) in
+    rw (line-back (fieldsOf (Corrections n)) rest (lit≤ tt) (lit≤ tt) refl, w)
+    (simp (
+      field-back ([]) (byte 9) (byte n ∷ []) rest (lit< tt),
+      field-back (byte 9 ∷ []) (byte n) ([]) rest h,
+    ))
+
+correction-back : (r n : ℕ) → r < 2 ^ 16 → n < 2 ^ 16 → (rest : List ℕ) (line : ℕ) → frameAt (textOf (Correction r n) ++ rest) 0 line ≡ record { frame = Correction r n; place = length (textOf (Correction r n)); line = lineAfter line }
+unfolding frameAt frameOf kindOf correctionOf textOf fieldsOf
+correction-back r n h k rest line =
+    let w = line-length (fieldsOf (Correction r n)) in
+    rw (line-back (fieldsOf (Correction r n)) rest (lit≤ tt) (lit≤ tt) refl, w)
+    (simp (
+      field-back ([]) (byte 11) (two r ∷ two n ∷ []) rest (lit< tt),
+      field-back (byte 11 ∷ []) (two r) (two n ∷ []) rest h,
+      field-back (byte 11 ∷ two r ∷ []) (two n) ([]) rest k,
+    ))
+
 equation-back : (op x y z u c : ℕ) → op < 2 ^ 8 → x < 2 ^ 8 → y < 2 ^ 8 → z < 2 ^ 8 → u < 2 ^ 8 → c < 2 ^ 64 → (rest : List ℕ) (line : ℕ) → frameAt (textOf (Equation op (record { position = x; index = y }) (record { position = z; index = u }) c) ++ rest) 0 line ≡ record { frame = Equation op (record { position = x; index = y }) (record { position = z; index = u }) c; place = length (textOf (Equation op (record { position = x; index = y }) (record { position = z; index = u }) c)); line = lineAfter line }
 unfolding frameAt frameOf kindOf equationOf textOf fieldsOf
 equation-back op x y z u c h i j k l m rest line =
@@ -203,5 +224,7 @@ frame-back (Node p o) rest line f = node-back p o (f .0) (f .1) rest line
 frame-back (Load n) rest line f = load-back n f rest line
 frame-back (Replace r n) rest line f = replace-back r n (f .0) (f .1) rest line
 frame-back Dump rest line f = dump-back rest line
+frame-back (Corrections n) rest line f = corrections-back n f rest line
+frame-back (Correction r n) rest line f = correction-back r n (f .0) (f .1) rest line
 frame-back (Refused r l) rest line f = absurd f
 frame-back Over rest line f = absurd f

@@ -11,10 +11,10 @@ use Rattle.lines.specs.Text.{lineAt}
 use Rattle.lines.specs.declared.Line.{Line}
 use Rattle.lines.specs.declared.Line.the-variants.{Digits, Bad, End}
 use Rattle.lines.proofs.Values.{num-small}
-use Rattle.frames.specs.Frames.{wrongLength, headerOf, symbolOf, productionOf, equationOf, nodeOf, loadOf, replaceOf, dumpOf, kindOf, frameOf, stepOf, frameAt, childAt}
+use Rattle.frames.specs.Frames.{wrongLength, headerOf, symbolOf, productionOf, equationOf, nodeOf, loadOf, replaceOf, dumpOf, correctionsOf, correctionOf, kindOf, frameOf, stepOf, frameAt, childAt}
 use Rattle.frames.specs.Laws.{Kids}
 use Rattle.frames.specs.declared.Frame.{Frame}
-use Rattle.frames.specs.declared.Frame.the-variants.{Header, Symbol, Production, Equation, Node, Load, Replace, Dump, Refused, Over}
+use Rattle.frames.specs.declared.Frame.the-variants.{Header, Symbol, Production, Equation, Node, Load, Replace, Dump, Corrections, Correction, Refused, Over}
 
 abbrev pub Bounded : Frame → Type 0
 Bounded (Header a b) = (a < 2 ^ 8) × (b < 2 ^ 8)
@@ -25,6 +25,8 @@ Bounded (Node p o) = (p < 2 ^ 8) × (o < 2 ^ 64)
 Bounded (Load n) = n < 2 ^ 16
 Bounded (Replace r n) = (r < 2 ^ 16) × (n < 2 ^ 16)
 Bounded Dump = Unit {0}
+Bounded (Corrections n) = n < 2 ^ 8
+Bounded (Correction r n) = (r < 2 ^ 16) × (n < 2 ^ 16)
 Bounded (Refused r l) = Unit {0}
 Bounded Over = Unit {0}
 
@@ -59,14 +61,15 @@ module _ (s : List ℕ) (place n line : ℕ) where
   }
 
   bounded-of : Bounded (frameOf s place n line)
-  unfolding frameOf kindOf headerOf symbolOf productionOf equationOf nodeOf loadOf replaceOf dumpOf
+  unfolding frameOf kindOf headerOf symbolOf productionOf equationOf nodeOf loadOf replaceOf dumpOf correctionsOf correctionOf
   bounded-of =
       let t : ℕ = numAt 2 s place in
       either (eqb t 1) _ _ (either (eqb n 6) _ _ (small 2, small 4) tt) (either (eqb t 2) _ _ (either (eqb n 6) _ _ (small 2, small 4) tt)
       (either (eqb t 3) _ _ (either (ltb n 6) _ _ tt (either (eqb n (6 + 2 * numAt 2 s (place + 4))) _ _ (small 2, (small 4, kids (numAt 2 s (place + 4)))) tt))
       (either (eqb t 4) _ _ (either (eqb n 28) _ _ (small 2, ((small 4, small 6), ((small 8, small 10), num-small 16 s (place + 12)))) tt)
       (either (eqb t 5) _ _ (either (eqb n 20) _ _ (num-small 2 s (place + 2), num-small 16 s (place + 4)) tt) (either (eqb t 6) _ _ (either (eqb n 6) _ _ (num-small 4 s (place + 2)) tt)
-      (either (eqb t 7) _ _ (either (eqb n 10) _ _ (num-small 4 s (place + 2), num-small 4 s (place + 6)) tt) (either (eqb t 8) _ _ (either (eqb n 2) _ _ tt tt) tt)))))))
+      (either (eqb t 7) _ _ (either (eqb n 10) _ _ (num-small 4 s (place + 2), num-small 4 s (place + 6)) tt) (either (eqb t 8) _ _ (either (eqb n 2) _ _ tt tt)
+      (either (eqb t 9) _ _ (either (eqb n 4) _ _ (small 2) tt) (either (eqb t 11) _ _ (either (eqb n 10) _ _ (num-small 4 s (place + 2), num-small 4 s (place + 6)) tt) tt)))))))))
 
 pub bounded : (s : List ℕ) (place line : ℕ) → Bounded (frameAt s place line .frame)
 unfolding frameAt

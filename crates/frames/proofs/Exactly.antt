@@ -14,17 +14,17 @@ use Rattle.lines.specs.Exactly.{IsLine, NoLine}
 use Rattle.lines.specs.declared.Line.{Line}
 use Rattle.lines.specs.declared.Line.the-variants.{Digits, Bad, End}
 use Rattle.lines.proofs.Exactly.{line-one, all-lines-exactly}
-use Rattle.frames.specs.Frames.{wrongLength, sized, headerOf, symbolOf, productionOf, equationOf, nodeOf, loadOf, replaceOf, dumpOf, kindOf, frameOf, lineAfter, stepOf, frameAt}
-use Rattle.frames.specs.Exactly.{childrenAt, Fields, header, symbol, production, equation, node, load, replace, dump, IsFrame, Astray, ended as text-ended, other as another, Finds, over, by13, by14, frame, FrameExactly}
+use Rattle.frames.specs.Frames.{wrongLength, sized, headerOf, symbolOf, productionOf, equationOf, nodeOf, loadOf, replaceOf, dumpOf, correctionsOf, correctionOf, kindOf, frameOf, lineAfter, stepOf, frameAt}
+use Rattle.frames.specs.Exactly.{childrenAt, Fields, header, symbol, production, equation, node, load, replace, dump, corrections, correction, IsFrame, Astray, ended as text-ended, other as another, Finds, over, by13, by14, frame, FrameExactly}
 use Rattle.frames.specs.declared.Step.{Step}
 use Rattle.frames.specs.declared.Frame.{Frame}
-use Rattle.frames.specs.declared.Frame.the-variants.{Header, Symbol, Production, Equation, Node, Load, Replace, Dump, Refused, Over}
+use Rattle.frames.specs.declared.Frame.the-variants.{Header, Symbol, Production, Equation, Node, Load, Replace, Dump, Corrections, Correction, Refused, Over}
 
 -- ---- what the table of frames says of each type
 
 -- the right length of a type; 0 where there is no such type
 abbrev rightLength : List ℕ → ℕ → ℕ → ℕ
-rightLength s place type = getD (0 ∷ 6 ∷ 6 ∷ (6 + 2 * numAt 2 s (place + 4)) ∷ 28 ∷ 20 ∷ 6 ∷ 10 ∷ 2 ∷ []) type 0
+rightLength s place type = getD (0 ∷ 6 ∷ 6 ∷ (6 + 2 * numAt 2 s (place + 4)) ∷ 28 ∷ 20 ∷ 6 ∷ 10 ∷ 2 ∷ 4 ∷ 0 ∷ 10 ∷ []) type 0
 
 -- and its frame
 abbrev frameBy : List ℕ → ℕ → ℕ → Frame
@@ -32,7 +32,8 @@ frameBy s place type = getD
     (Over ∷ Header (numAt 2 s (place + 2)) (numAt 2 s (place + 4)) ∷ Symbol (numAt 2 s (place + 2)) (numAt 2 s (place + 4))
     ∷ Production (numAt 2 s (place + 2)) (numAt 2 s (place + 4)) (childrenAt s place (numAt 2 s (place + 4)))
     ∷ Equation (numAt 2 s (place + 2)) (record { position = numAt 2 s (place + 4); index = numAt 2 s (place + 6) }) (record { position = numAt 2 s (place + 8); index = numAt 2 s (place + 10) }) (numAt 16 s (place + 12))
-    ∷ Node (numAt 2 s (place + 2)) (numAt 16 s (place + 4)) ∷ Load (numAt 4 s (place + 2)) ∷ Replace (numAt 4 s (place + 2)) (numAt 4 s (place + 6)) ∷ Dump ∷ []) type Over
+    ∷ Node (numAt 2 s (place + 2)) (numAt 16 s (place + 4)) ∷ Load (numAt 4 s (place + 2)) ∷ Replace (numAt 4 s (place + 2)) (numAt 4 s (place + 6)) ∷ Dump
+    ∷ Corrections (numAt 2 s (place + 2)) ∷ Over ∷ Correction (numAt 4 s (place + 2)) (numAt 4 s (place + 6)) ∷ []) type Over
 
 module _ {s : List ℕ} {place : ℕ} where
   right-length : {f : Frame} {type n : ℕ} → Fields s place f type n → n ≡ rightLength s place type
@@ -44,6 +45,8 @@ module _ {s : List ℕ} {place : ℕ} where
   right-length load = refl
   right-length replace = refl
   right-length dump = refl
+  right-length corrections = refl
+  right-length correction = refl
 
   right-frame : {f : Frame} {type n : ℕ} → Fields s place f type n → f ≡ frameBy s place type
   right-frame header = refl
@@ -54,6 +57,8 @@ module _ {s : List ℕ} {place : ℕ} where
   right-frame load = refl
   right-frame replace = refl
   right-frame dump = refl
+  right-frame corrections = refl
+  right-frame correction = refl
 
 -- ---- the frame that a line's digits make is one of the table, or none of the table fits
 
@@ -84,23 +89,27 @@ module _ (s : List ℕ) (place n line : ℕ) where
       either (ltb n 6) _ _ (λ h. misfit 3 e (λ d. omega (arith, ltb-true n 6 h))) (λ h. of-type 3 _ e (λ d. rw d production))
 
   -- a line of no type that there is
-  unlisted : {f : Frame} {type m : ℕ} → Fields s place f type m → first ≡ type → eqb first 1 ≡ false → eqb first 2 ≡ false → eqb first 3 ≡ false → eqb first 4 ≡ false → eqb first 5 ≡ false → eqb first 6 ≡ false → eqb first 7 ≡ false → eqb first 8 ≡ false → ⊥
-  unlisted header e n1 n2 n3 n4 n5 n6 n7 n8 = eqb-false first 1 n1 e
-  unlisted symbol e n1 n2 n3 n4 n5 n6 n7 n8 = eqb-false first 2 n2 e
-  unlisted production e n1 n2 n3 n4 n5 n6 n7 n8 = eqb-false first 3 n3 e
-  unlisted equation e n1 n2 n3 n4 n5 n6 n7 n8 = eqb-false first 4 n4 e
-  unlisted node e n1 n2 n3 n4 n5 n6 n7 n8 = eqb-false first 5 n5 e
-  unlisted load e n1 n2 n3 n4 n5 n6 n7 n8 = eqb-false first 6 n6 e
-  unlisted replace e n1 n2 n3 n4 n5 n6 n7 n8 = eqb-false first 7 n7 e
-  unlisted dump e n1 n2 n3 n4 n5 n6 n7 n8 = eqb-false first 8 n8 e
+  unlisted : {f : Frame} {type m : ℕ} → Fields s place f type m → first ≡ type → eqb first 1 ≡ false → eqb first 2 ≡ false → eqb first 3 ≡ false → eqb first 4 ≡ false → eqb first 5 ≡ false → eqb first 6 ≡ false → eqb first 7 ≡ false → eqb first 8 ≡ false → eqb first 9 ≡ false → eqb first 11 ≡ false → ⊥
+  unlisted header e n1 n2 n3 n4 n5 n6 n7 n8 n9 n11 = eqb-false first 1 n1 e
+  unlisted symbol e n1 n2 n3 n4 n5 n6 n7 n8 n9 n11 = eqb-false first 2 n2 e
+  unlisted production e n1 n2 n3 n4 n5 n6 n7 n8 n9 n11 = eqb-false first 3 n3 e
+  unlisted equation e n1 n2 n3 n4 n5 n6 n7 n8 n9 n11 = eqb-false first 4 n4 e
+  unlisted node e n1 n2 n3 n4 n5 n6 n7 n8 n9 n11 = eqb-false first 5 n5 e
+  unlisted load e n1 n2 n3 n4 n5 n6 n7 n8 n9 n11 = eqb-false first 6 n6 e
+  unlisted replace e n1 n2 n3 n4 n5 n6 n7 n8 n9 n11 = eqb-false first 7 n7 e
+  unlisted dump e n1 n2 n3 n4 n5 n6 n7 n8 n9 n11 = eqb-false first 8 n8 e
+  unlisted corrections e n1 n2 n3 n4 n5 n6 n7 n8 n9 n11 = eqb-false first 9 n9 e
+  unlisted correction e n1 n2 n3 n4 n5 n6 n7 n8 n9 n11 = eqb-false first 11 n11 e
 
   made : Made (frameOf s place n line)
-  unfolding frameOf kindOf headerOf symbolOf equationOf nodeOf loadOf replaceOf dumpOf
+  unfolding frameOf kindOf headerOf symbolOf equationOf nodeOf loadOf replaceOf dumpOf correctionsOf correctionOf
   made =
       either (eqb first 1) _ _ (λ e. of-type 1 _ (eqb-true first 1 e) (λ d. rw d header)) (λ n1. either (eqb first 2) _ _ (λ e. of-type 2 _ (eqb-true first 2 e) (λ d. rw d symbol)) (λ n2.
       either (eqb first 3) _ _ (λ e. made-production (eqb-true first 3 e)) (λ n3. either (eqb first 4) _ _ (λ e. of-type 4 _ (eqb-true first 4 e) (λ d. rw d equation)) (λ n4.
       either (eqb first 5) _ _ (λ e. of-type 5 _ (eqb-true first 5 e) (λ d. rw d node)) (λ n5. either (eqb first 6) _ _ (λ e. of-type 6 _ (eqb-true first 6 e) (λ d. rw d load)) (λ n6.
-      either (eqb first 7) _ _ (λ e. of-type 7 _ (eqb-true first 7 e) (λ d. rw d replace)) (λ n7. either (eqb first 8) _ _ (λ e. of-type 8 _ (eqb-true first 8 e) (λ d. rw d dump)) (λ n8. wrong (λ f type e w. unlisted w e n1 n2 n3 n4 n5 n6 n7 n8) refl))))))))
+      either (eqb first 7) _ _ (λ e. of-type 7 _ (eqb-true first 7 e) (λ d. rw d replace)) (λ n7. either (eqb first 8) _ _ (λ e. of-type 8 _ (eqb-true first 8 e) (λ d. rw d dump)) (λ n8.
+      either (eqb first 9) _ _ (λ e. of-type 9 _ (eqb-true first 9 e) (λ d. rw d corrections)) (λ n9. either (eqb first 11) _ _ (λ e. of-type 11 _ (eqb-true first 11 e) (λ d. rw d correction)) (λ n11.
+      wrong (λ f type e w. unlisted w e n1 n2 n3 n4 n5 n6 n7 n8 n9 n11) refl))))))))))
 
 -- ---- the frame at a place
 

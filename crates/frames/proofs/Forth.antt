@@ -12,11 +12,11 @@ use Rattle.lines.specs.Text.{Field, byte, two, eight, widthOf, lineAt, lineText
 use Rattle.lines.specs.declared.Line.{Line}
 use Rattle.lines.specs.declared.Line.the-variants.{Digits, Bad, End}
 use Rattle.lines.proofs.Fields.{Stand, line-forth, line-length}
-use Rattle.frames.specs.Frames.{wrongLength, sized, headerOf, symbolOf, productionOf, equationOf, nodeOf, loadOf, replaceOf, dumpOf, kindOf, frameOf, stepOf, frameAt, lineAfter, childAt}
+use Rattle.frames.specs.Frames.{wrongLength, sized, headerOf, symbolOf, productionOf, equationOf, nodeOf, loadOf, replaceOf, dumpOf, correctionsOf, correctionOf, kindOf, frameOf, stepOf, frameAt, lineAfter, childAt}
 use Rattle.frames.specs.Text.{fieldsOf, textOf}
 use Rattle.frames.specs.Laws.{Fits, Forth, ForthAll}
 use Rattle.frames.specs.declared.Frame.{Frame}
-use Rattle.frames.specs.declared.Frame.the-variants.{Header, Symbol, Production, Equation, Node, Load, Replace, Dump, Refused, Over}
+use Rattle.frames.specs.declared.Frame.the-variants.{Header, Symbol, Production, Equation, Node, Load, Replace, Dump, Corrections, Correction, Refused, Over}
 
 -- the fields of a frame that fits are those of the line of n digits at a place
 pub record Faith (s : List ℕ) (place n : ℕ) (f : Frame) : Type 0 where
@@ -66,6 +66,14 @@ module _ (s : List ℕ) (place n line : ℕ) where
   unfolding dumpOf fieldsOf
   faith-dump k = faith-sized 2 _ (λ e. record { width = λ f. e; stand = λ f. (sym k, tt) })
 
+  faith-corrections : numAt 2 s place ≡ 9 → Faith s place n (correctionsOf s place n line)
+  unfolding correctionsOf fieldsOf
+  faith-corrections k = faith-sized 4 _ (λ e. record { width = λ f. e; stand = λ f. (sym k, (at 2 2 (place + 2) (omega arith), tt)) })
+
+  faith-correction : numAt 2 s place ≡ 11 → Faith s place n (correctionOf s place n line)
+  unfolding correctionOf fieldsOf
+  faith-correction k = faith-sized 10 _ (λ e. record { width = λ f. e; stand = λ f. (sym k, (at 4 2 (place + 2) (omega arith), (at 4 6 (place + 2 + 4) (omega arith), tt))) })
+
   -- a production's fields, by its own child count
   abbrev count : ℕ
   count = numAt 2 s (place + 4)
@@ -98,7 +106,8 @@ module _ (s : List ℕ) (place n line : ℕ) where
       either P (eqb t 1) _ _ (λ e. faith-header (eqb-true t 1 e)) (λ _. either P (eqb t 2) _ _ (λ e. faith-symbol (eqb-true t 2 e)) (λ _.
       either P (eqb t 3) _ _ (λ e. faith-production (eqb-true t 3 e)) (λ _. either P (eqb t 4) _ _ (λ e. faith-equation (eqb-true t 4 e)) (λ _.
       either P (eqb t 5) _ _ (λ e. faith-node (eqb-true t 5 e)) (λ _. either P (eqb t 6) _ _ (λ e. faith-load (eqb-true t 6 e)) (λ _.
-      either P (eqb t 7) _ _ (λ e. faith-replace (eqb-true t 7 e)) (λ _. either P (eqb t 8) _ _ (λ e. faith-dump (eqb-true t 8 e)) (λ _. faith-wrong))))))))
+      either P (eqb t 7) _ _ (λ e. faith-replace (eqb-true t 7 e)) (λ _. either P (eqb t 8) _ _ (λ e. faith-dump (eqb-true t 8 e)) (λ _.
+      either P (eqb t 9) _ _ (λ e. faith-corrections (eqb-true t 9 e)) (λ _. either P (eqb t 11) _ _ (λ e. faith-correction (eqb-true t 11 e)) (λ _. faith-wrong))))))))))
 
 -- a line's frame, and where it ends
 pub forth-line : (s : List ℕ) (place n line : ℕ) → lineAt s place ≡ Digits n → Fits (frameOf s place n line)

@@ -12,7 +12,7 @@ use Rattle.frames.specs.Calls.{FrameAtSays}
 use Rattle.frames.specs.declared.Children.{Children}
 use Rattle.frames.specs.declared.Step.{Step}
 use Rattle.frames.specs.declared.Frame.{Frame}
-use Rattle.frames.specs.declared.Frame.the-variants.{Header, Symbol, Production, Equation, Node, Load, Replace, Dump, Refused, Over}
+use Rattle.frames.specs.declared.Frame.the-variants.{Header, Symbol, Production, Equation, Node, Load, Replace, Dump, Corrections, Correction, Refused, Over}
 
 -- ---- the frames
 
@@ -32,6 +32,8 @@ pub data Fields (s : List ℕ) (place : ℕ) : Frame → ℕ → ℕ → Type 0 
   load : Fields s place (Load (numAt 4 s (place + 2))) 6 6
   replace : Fields s place (Replace (numAt 4 s (place + 2)) (numAt 4 s (place + 6))) 7 10
   dump : Fields s place Dump 8 2
+  corrections : Fields s place (Corrections (numAt 2 s (place + 2))) 9 4
+  correction : Fields s place (Correction (numAt 4 s (place + 2)) (numAt 4 s (place + 6))) 11 10
 
 -- the frame f stands there: a line of n digits which begin with the type's number, and n is the type's right length
 pub record IsFrame (s : List ℕ) (place : ℕ) (f : Frame) (type n : ℕ) : Type 0 where

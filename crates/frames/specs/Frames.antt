@@ -9,7 +9,7 @@ use Rattle.lines.specs.declared.Line.{Line}
 use Rattle.lines.specs.declared.Line.the-variants.{Digits, Bad, End}
 use Rattle.refusal.specs.declared.Refusal.the-variants as why
 use Rattle.frames.specs.declared.Frame.{Frame}
-use Rattle.frames.specs.declared.Frame.the-variants.{Header, Symbol, Production, Equation, Node, Load, Replace, Dump, Refused, Over}
+use Rattle.frames.specs.declared.Frame.the-variants.{Header, Symbol, Production, Equation, Node, Load, Replace, Dump, Corrections, Correction, Refused, Over}
 use Rattle.frames.specs.declared.Step.{Step}
 
 -- "14: a frame has unknown type, wrong length or wrong place"
@@ -60,11 +60,20 @@ module _ (s : List ℕ) (place n line : ℕ) where
   unfoldable pub replaceOf : Frame
   replaceOf = sized n 10 line (Replace (numAt 4 s (place + 2)) (numAt 4 s (place + 6)))
 
-  -- the frame by its type
+  -- the number of points of one change; a frame for each point follows
+  unfoldable pub correctionsOf : Frame
+  correctionsOf = sized n 4 line (Corrections (numAt 2 s (place + 2)))
+
+  -- one of those points: r and the count of the nodes that follow it, as a replacement has them
+  unfoldable pub correctionOf : Frame
+  correctionOf = sized n 10 line (Correction (numAt 4 s (place + 2)) (numAt 4 s (place + 6)))
+
+  -- the frame by its type; 0a is none
   unfoldable pub kindOf : ℕ → Frame
   kindOf t =
       cond (eqb t 1) headerOf (cond (eqb t 2) symbolOf (cond (eqb t 3) productionOf (cond (eqb t 4) equationOf
-      (cond (eqb t 5) nodeOf (cond (eqb t 6) loadOf (cond (eqb t 7) replaceOf (cond (eqb t 8) (dumpOf n line) (wrongLength line))))))))
+      (cond (eqb t 5) nodeOf (cond (eqb t 6) loadOf (cond (eqb t 7) replaceOf (cond (eqb t 8) (dumpOf n line)
+      (cond (eqb t 9) correctionsOf (cond (eqb t 11) correctionOf (wrongLength line))))))))))
 
   unfoldable pub frameOf : Frame
   frameOf = kindOf (numAt 2 s place)

@@ -8,7 +8,7 @@ use Rattle.frames.specs.Text.{textOf}
 use Rattle.frames.specs.declared.Children.{Children}
 use Rattle.frames.specs.declared.Step.{Step}
 use Rattle.frames.specs.declared.Frame.{Frame}
-use Rattle.frames.specs.declared.Frame.the-variants.{Header, Symbol, Production, Equation, Node, Load, Replace, Dump, Refused, Over}
+use Rattle.frames.specs.declared.Frame.the-variants.{Header, Symbol, Production, Equation, Node, Load, Replace, Dump, Corrections, Correction, Refused, Over}
 
 -- a step of a text that starts n bytes further on
 abbrev pub shifted : ℕ → Step → Step
@@ -40,6 +40,8 @@ Fits (Node p o) = (p < 2 ^ 8) × (o < 2 ^ 64)
 Fits (Load n) = n < 2 ^ 16
 Fits (Replace r n) = (r < 2 ^ 16) × (n < 2 ^ 16)
 Fits Dump = Unit {0}
+Fits (Corrections n) = n < 2 ^ 8
+Fits (Correction r n) = (r < 2 ^ 16) × (n < 2 ^ 16)
 Fits (Refused r l) = ⊥
 Fits Over = ⊥
 

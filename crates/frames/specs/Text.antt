@@ -5,7 +5,7 @@ use lib.ListN.{take}
 use Rattle.lines.specs.Text.{Field, byte, two, eight, lineText}
 use Rattle.frames.specs.declared.Children.{Children}
 use Rattle.frames.specs.declared.Frame.{Frame}
-use Rattle.frames.specs.declared.Frame.the-variants.{Header, Symbol, Production, Equation, Node, Load, Replace, Dump, Refused, Over}
+use Rattle.frames.specs.declared.Frame.the-variants.{Header, Symbol, Production, Equation, Node, Load, Replace, Dump, Corrections, Correction, Refused, Over}
 
 -- "One frame a line, big-endian numbers.": the type and then the fields. A refusal, and no line, have none
 unfoldable pub fieldsOf : Frame → List Field
@@ -17,6 +17,8 @@ fieldsOf (Node production own) = byte 5 ∷ byte production ∷ eight own ∷ []
 fieldsOf (Load count) = byte 6 ∷ two count ∷ []
 fieldsOf (Replace point count) = byte 7 ∷ two point ∷ two count ∷ []
 fieldsOf Dump = byte 8 ∷ []
+fieldsOf (Corrections count) = byte 9 ∷ byte count ∷ []
+fieldsOf (Correction point count) = byte 11 ∷ two point ∷ two count ∷ []
 fieldsOf (Refused refusal line) = []
 fieldsOf Over = []
 

@@ -8,7 +8,7 @@ use sets::Argument;
 ghost use mathlib.Core.Path.{_≡_};
 ghost use Prim.Native.Nat.{_+_, _<_, _^_};
 ghost use Rattle.lines.specs.Hex.{numAt};
-ghost use Rattle.frames.specs.Frames.{wrongLength, childAt, headerOf, symbolOf, productionOf, equationOf, nodeOf, loadOf, replaceOf, dumpOf, frameOf, lineAfter};
+ghost use Rattle.frames.specs.Frames.{wrongLength, childAt, headerOf, symbolOf, productionOf, equationOf, nodeOf, loadOf, replaceOf, dumpOf, correctionsOf, correctionOf, frameOf, lineAfter};
 ghost use Rattle.frames.specs.Calls.{FrameAtSays};
 
 fn byte(text: &[u8], place: usize) -> u8
@@ -182,6 +182,32 @@ fn dump_frame(n: usize, line: u32) -> Frame
     Frame::Dump
 }
 
+fn corrections_frame(text: &[u8], place: usize, n: usize, line: u32) -> Frame
+    requires { ⌜ place + 28 < 2 ^ 64 ⌝ }
+    ensures { λ r. ⌜ r ≡ correctionsOf (now (text .entry)) place n line ⌝ }
+{
+    if n != 4 {
+        return wrong(line);
+    }
+    let count = byte(text, place + 2);
+    Frame::Corrections { count: count }
+}
+
+fn correction_frame(text: &[u8], place: usize, n: usize, line: u32) -> Frame
+    requires { ⌜ place + 28 < 2 ^ 64 ⌝ }
+    ensures { λ r. ⌜ r ≡ correctionOf (now (text .entry)) place n line ⌝ }
+{
+    if n != 10 {
+        return wrong(line);
+    }
+    let point = pair(text, place + 2);
+    let count = pair(text, place + 6);
+    Frame::Correction {
+        point: point,
+        count: count,
+    }
+}
+
 // The frame that n digits make.
 fn frame_of(text: &[u8], place: usize, n: usize, line: u32) -> Frame
     requires { ⌜ place + 28 < 2 ^ 64 ⌝ }
@@ -197,6 +223,8 @@ fn frame_of(text: &[u8], place: usize, n: usize, line: u32) -> Frame
         6 => load_frame(text, place, n, line),
         7 => replace_frame(text, place, n, line),
         8 => dump_frame(n, line),
+        9 => corrections_frame(text, place, n, line),
+        11 => correction_frame(text, place, n, line),
         _ => wrong(line),
     }
 }

@@ -63,6 +63,15 @@ pub enum Frame {
     },
     // 08
     Dump,
+    // 09
+    Corrections {
+        count: u8,
+    },
+    // 0b
+    Correction {
+        point: u16,
+        count: u16,
+    },
     Refused {
         refusal: Refusal,
         line: u32,

@@ -14,16 +14,18 @@ use Rattle.update.specs.Memories.{Memory}
 use Rattle.frames.specs.declared.Expected.{Expected}
 use Rattle.frames.specs.declared.Expected.the-variants.{AtHeader, AtSymbol, AtProduction, AtEquation, Ended}
 use Rattle.frames.specs.declared.Frame.{Frame}
-use Rattle.frames.specs.declared.Frame.the-variants.{Header, Symbol, Production, Equation, Node, Load, Replace, Dump, Refused, Over}
+use Rattle.frames.specs.declared.Frame.the-variants.{Header, Symbol, Production, Equation, Node, Load, Replace, Dump, Corrections, Correction, Refused, Over}
 use Rattle.texts.specs.Read.{wordsAfter, takenAt}
 use Rattle.frames.proofs.Expected as X
 use Rattle.frames.proofs.Frame as F
 use Rattle.session.specs.Session.{dumpTold}
-use Rattle.owing.specs.Hearing.{stopped, strange, waiting, called, ordered, commanded, modeOf, tabled, keptAt, noded, hearing}
+use Rattle.tree.specs.Handed.{announced}
+use Rattle.owing.specs.Owed.{namedIn}
+use Rattle.owing.specs.Hearing.{stopped, strange, waiting, called, ordered, naming, commanded, modeOf, tabled, keptAt, pointKept, pointed, noded, hearing}
 use Rattle.owing.specs.declared.Order.{Order}
 use Rattle.owing.specs.declared.Order.the-variants as order
 use Rattle.owing.specs.declared.Mode.{Mode}
-use Rattle.owing.specs.declared.Mode.the-variants.{Table, Command, Nodes, Working, Stopped}
+use Rattle.owing.specs.declared.Mode.the-variants.{Table, Command, Naming, Nodes, Working, Stopped}
 
 pub not-ended : (x : Expected) → OneOf (0 ∷ 1 ∷ 2 ∷ 3 ∷ []) (tagOf X.the-type x) → Table x ≡ modeOf x
 not-ended AtHeader k = refl
@@ -47,13 +49,26 @@ module _ (taken x : ℕ) (xs : List ℕ) where
   pub kept-long : length (keptAt taken x xs) ≡ length xs
   kept-long = same-room (ltb taken 513)
 
-  -- 513 have their place still
-  pub kept-room : (ys : List ℕ) → ys ≡ keptAt taken x xs → 513 ≤ length xs → 513 ≤ length ys
-  kept-room ys e h = rw (e, kept-long) h
+  -- as many have their place still
+  pub kept-room : (n : ℕ) (ys : List ℕ) → ys ≡ keptAt taken x xs → n ≤ length xs → n ≤ length ys
+  kept-room n ys e h = rw (e, kept-long) h
+
+-- ---- a point kept
+module _ (taken point count : ℕ) (os : List ℕ) where
+  same-words : (b : Bool) (i j x y : ℕ) → length (cond b (set os i x) (set os j y)) ≡ length os
+  same-words true i j x y = length-set os i x
+  same-words false i j x y = length-set os j y
+
+  pub point-long : length (pointKept taken point count os) ≡ length os
+  unfolding pointKept
+  point-long = same-words (ltb taken 8) _ _ _ _
+
+  pub point-room : (n : ℕ) (ys : List ℕ) → ys ≡ pointKept taken point count os → n ≤ length os → n ≤ length ys
+  point-room n ys e h = rw (e, point-long) h
 
 -- ---- a frame by its tag
 module _ (t ps os : List ℕ) (m : Memory) (r : Record) where
-  pub not-refused : (f : Frame) (line : ℕ) → OneOf (0 ∷ 1 ∷ 2 ∷ 3 ∷ 4 ∷ 5 ∷ 6 ∷ 7 ∷ 9 ∷ []) (tagOf F.the-type f) → strange t ps os m r f line ≡ stopped t ps os m r 14 line
+  pub not-refused : (f : Frame) (line : ℕ) → OneOf (0 ∷ 1 ∷ 2 ∷ 3 ∷ 4 ∷ 5 ∷ 6 ∷ 7 ∷ 8 ∷ 9 ∷ 11 ∷ []) (tagOf F.the-type f) → strange t ps os m r f line ≡ stopped t ps os m r 14 line
   not-refused (Header a b) line k = refl
   not-refused (Symbol a b) line k = refl
   not-refused (Production a b c) line k = refl
@@ -62,35 +77,57 @@ module _ (t ps os : List ℕ) (m : Memory) (r : Record) where
   not-refused (Load a) line k = refl
   not-refused (Replace a b) line k = refl
   not-refused Dump line k = refl
-  not-refused (Refused a b) line k = absurd (miss (0 ∷ 1 ∷ 2 ∷ 3 ∷ 4 ∷ 5 ∷ 6 ∷ 7 ∷ 9 ∷ []) 8 tt k)
+  not-refused (Corrections a) line k = refl
+  not-refused (Correction a b) line k = refl
+  not-refused (Refused a b) line k = absurd (miss (0 ∷ 1 ∷ 2 ∷ 3 ∷ 4 ∷ 5 ∷ 6 ∷ 7 ∷ 8 ∷ 9 ∷ 11 ∷ []) 10 tt k)
   not-refused Over line k = refl
 
-  pub no-command : (f : Frame) (line : ℕ) → OneOf (0 ∷ 1 ∷ 2 ∷ 3 ∷ 4 ∷ 8 ∷ 9 ∷ []) (tagOf F.the-type f) → commanded t ps os m r f line ≡ strange t ps os m r f line
+  pub no-command : (f : Frame) (line : ℕ) → OneOf (0 ∷ 1 ∷ 2 ∷ 3 ∷ 4 ∷ 9 ∷ 10 ∷ 11 ∷ []) (tagOf F.the-type f) → commanded t ps os m r f line ≡ strange t ps os m r f line
   unfolding commanded
   no-command (Header a b) line k = refl
   no-command (Symbol a b) line k = refl
   no-command (Production a b c) line k = refl
   no-command (Equation a b c d) line k = refl
   no-command (Node a b) line k = refl
-  no-command (Load a) line k = absurd (miss (0 ∷ 1 ∷ 2 ∷ 3 ∷ 4 ∷ 8 ∷ 9 ∷ []) 5 tt k)
-  no-command (Replace a b) line k = absurd (miss (0 ∷ 1 ∷ 2 ∷ 3 ∷ 4 ∷ 8 ∷ 9 ∷ []) 6 tt k)
-  no-command Dump line k = absurd (miss (0 ∷ 1 ∷ 2 ∷ 3 ∷ 4 ∷ 8 ∷ 9 ∷ []) 7 tt k)
+  no-command (Load a) line k = absurd (miss (0 ∷ 1 ∷ 2 ∷ 3 ∷ 4 ∷ 9 ∷ 10 ∷ 11 ∷ []) 5 tt k)
+  no-command (Replace a b) line k = absurd (miss (0 ∷ 1 ∷ 2 ∷ 3 ∷ 4 ∷ 9 ∷ 10 ∷ 11 ∷ []) 6 tt k)
+  no-command Dump line k = absurd (miss (0 ∷ 1 ∷ 2 ∷ 3 ∷ 4 ∷ 9 ∷ 10 ∷ 11 ∷ []) 7 tt k)
+  no-command (Corrections a) line k = absurd (miss (0 ∷ 1 ∷ 2 ∷ 3 ∷ 4 ∷ 9 ∷ 10 ∷ 11 ∷ []) 8 tt k)
+  no-command (Correction a b) line k = refl
   no-command (Refused a b) line k = refl
   no-command Over line k = refl
 
-  pub no-node : (o : Order) (count taken command : ℕ) (f : Frame) (line : ℕ) → OneOf (0 ∷ 1 ∷ 2 ∷ 3 ∷ 5 ∷ 6 ∷ 7 ∷ 8 ∷ 9 ∷ []) (tagOf F.the-type f)
+  pub no-node : (o : Order) (count taken command : ℕ) (f : Frame) (line : ℕ) → OneOf (0 ∷ 1 ∷ 2 ∷ 3 ∷ 5 ∷ 6 ∷ 7 ∷ 8 ∷ 9 ∷ 10 ∷ 11 ∷ []) (tagOf F.the-type f)
       → noded o count taken command f line t ps os m r ≡ strange t ps os m r f line
   unfolding noded
   no-node o count taken command (Header a b) line k = refl
   no-node o count taken command (Symbol a b) line k = refl
   no-node o count taken command (Production a b c) line k = refl
   no-node o count taken command (Equation a b c d) line k = refl
-  no-node o count taken command (Node a b) line k = absurd (miss (0 ∷ 1 ∷ 2 ∷ 3 ∷ 5 ∷ 6 ∷ 7 ∷ 8 ∷ 9 ∷ []) 4 tt k)
+  no-node o count taken command (Node a b) line k = absurd (miss (0 ∷ 1 ∷ 2 ∷ 3 ∷ 5 ∷ 6 ∷ 7 ∷ 8 ∷ 9 ∷ 10 ∷ 11 ∷ []) 4 tt k)
   no-node o count taken command (Load a) line k = refl
   no-node o count taken command (Replace a b) line k = refl
   no-node o count taken command Dump line k = refl
+  no-node o count taken command (Corrections a) line k = refl
+  no-node o count taken command (Correction a b) line k = refl
   no-node o count taken command (Refused a b) line k = refl
   no-node o count taken command Over line k = refl
+
+  pub no-point : (count taken command : ℕ) (f : Frame) (line : ℕ) → OneOf (0 ∷ 1 ∷ 2 ∷ 3 ∷ 4 ∷ 5 ∷ 6 ∷ 7 ∷ 8 ∷ 10 ∷ 11 ∷ []) (tagOf F.the-type f)
+      → pointed count taken command f line t ps os m r ≡ strange t ps os m r f line
+  unfolding pointed
+  no-point count taken command (Header a b) line k = refl
+  no-point count taken command (Symbol a b) line k = refl
+  no-point count taken command (Production a b c) line k = refl
+  no-point count taken command (Equation a b c d) line k = refl
+  no-point count taken command (Node a b) line k = refl
+  no-point count taken command (Load a) line k = refl
+  no-point count taken command (Replace a b) line k = refl
+  no-point count taken command Dump line k = refl
+  no-point count taken command (Corrections a) line k = refl
+  no-point count taken command (Correction a b) line k = absurd (miss (0 ∷ 1 ∷ 2 ∷ 3 ∷ 4 ∷ 5 ∷ 6 ∷ 7 ∷ 8 ∷ 10 ∷ 11 ∷ []) 9 tt k)
+  no-point count taken command (Refused a b) line k = refl
+  no-point count taken command Over line k = refl
 
   -- ---- a command's first line
   pub no-nodes : (o : Order) (count line : ℕ) → count ≡ 0 → ordered t ps os m r o count line ≡ called t ps os m r o count line
@@ -101,6 +138,14 @@ module _ (t ps os : List ℕ) (m : Memory) (r : Record) where
   some-nodes o zero line f = absurd (f refl)
   some-nodes o (suc n) line f = refl
 
+  pub no-points : (count line : ℕ) → count ≡ 0 → naming t ps os m r count line ≡ called t ps os m r (order.Several 0) 0 line
+  no-points zero line e = refl
+  no-points (suc n) line e = absurd (omega arith)
+
+  pub some-points : (count line : ℕ) → (count ≡ 0 → ⊥) → naming t ps os m r count line ≡ waiting t ps os m r (Naming count 0 line)
+  some-points zero line f = absurd (f refl)
+  some-points (suc n) line f = refl
+
   module _ (f : Frame) (line : ℕ) where
     pub a-load : (count : ℕ) → f ≡ Load count → commanded t ps os m r f line ≡ ordered t ps os m r order.Load count line
     unfolding commanded
@@ -110,9 +155,25 @@ module _ (t ps os : List ℕ) (m : Memory) (r : Record) where
     unfolding commanded
     a-replacement point count e = rw e
 
+    pub a-row : (count : ℕ) → f ≡ Corrections count → commanded t ps os m r f line ≡ naming t ps os m r count line
+    unfolding commanded
+    a-row count e = rw e
+
     pub a-dump : f ≡ Dump → commanded t ps os m r f line ≡ record { mode = Command; text = dumpTold line t r m .text; next = r; words = t; parts = ps; partOwns = os; memory = m }
     unfolding commanded
     a-dump e = rw e
+
+    -- ---- a point
+    module _ (count taken command point n : ℕ) (e : f ≡ Correction point n) where
+      pub more-points : taken + 1 < count
+          → pointed count taken command f line t ps os m r ≡ waiting t ps (pointKept taken point n os) m r (Naming count (taken + 1) command)
+      unfolding pointed
+      more-points h = rw (e, lt-ltb (taken + 1) count h)
+
+      pub last-point : count ≤ taken + 1
+          → pointed count taken command f line t ps os m r ≡ ordered t ps (pointKept taken point n os) m r (order.Several count) (announced (namedIn count (pointKept taken point n os))) command
+      unfolding pointed
+      last-point h = rw (e, le-ltb (taken + 1) count h)
 
     -- ---- a node
     module _ (o : Order) (count taken command p own : ℕ) (e : f ≡ Node p own) where
@@ -134,6 +195,11 @@ module _ (t ps os : List ℕ) (m : Memory) (r : Record) where
       pub by-command : mode ≡ Command → hearing mode f line t ps os m r ≡ commanded t ps os m r f line
       unfolding hearing
       by-command e = rw e
+
+      pub by-naming : (count taken command : ℕ) → mode ≡ Naming count taken command
+          → hearing mode f line t ps os m r ≡ pointed count taken command f line t ps os m r
+      unfolding hearing
+      by-naming count taken command e = rw e
 
       pub by-nodes : (o : Order) (count taken command : ℕ) → mode ≡ Nodes o count taken command
           → hearing mode f line t ps os m r ≡ noded o count taken command f line t ps os m r

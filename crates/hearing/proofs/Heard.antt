@@ -19,9 +19,12 @@ use Rattle.texts.specs.declared.Taken.{Taken}
 use Rattle.texts.specs.declared.Taken.the-variants.{Next, Stopped as StoppedAt}
 use Rattle.opens.specs.declared.Begun.{Begun}
 use Rattle.opens.specs.Lent.{begun}
-use Rattle.owing.specs.Owed.{orderCall}
-use Rattle.owing.specs.Hearing.{Heard, turnsMost, stopped, called, waiting, modeOf, tabled, Hears}
+use Rattle.tree.specs.declared.Point.{Point}
+use Rattle.tree.specs.Handed.{announced}
+use Rattle.owing.specs.Owed.{pointsIn, namedIn, orderCall}
+use Rattle.owing.specs.Hearing.{Heard, turnsMost, stopped, called, ordered, waiting, modeOf, tabled, Hears}
 use Rattle.owing.specs.declared.Order.{Order}
+use Rattle.owing.specs.declared.Order.the-variants.{Several}
 use Rattle.owing.specs.declared.Mode.{Mode}
 use Rattle.owing.specs.declared.Mode.the-variants.{Command, Working}
 use Rattle.owing.specs.declared.Told.{Told}
@@ -48,6 +51,10 @@ pub called-as : (t : List ℕ) {ps qs os ws : List ℕ} (m : Memory) (r : Record
     → called t qs ws m r order count command ≡ called t ps os m r order count command
 called-as t m r order count command e f = rw (e, f)
 
+pub ordered-as : (t ps : List ℕ) {os ws : List ℕ} (m : Memory) (r : Record) (n command : ℕ) (all : ℕ) → os ≡ ws → all ≡ announced (namedIn n os)
+    → ordered t ps ws m r (Several n) (announced (namedIn n ws)) command ≡ ordered t ps os m r (Several n) all command
+ordered-as t ps m r n command all e f = rw (← e, f)
+
 module _ (t ps os : List ℕ) (m : Memory) (r : Record) where
   -- nothing is printed
   pub silent : (mode : Mode) (printed : ℕ) (out : List ℕ) → Hears (waiting t ps os m r mode) (record { mode = mode; «record» = r; printed = printed }) printed out out t ps os m
@@ -60,15 +67,15 @@ module _ (t ps os : List ℕ) (m : Memory) (r : Record) where
       record { mode = refl; next = refl; place = omega (arith, refusal-length n line); shown = f; words-then = refl; parts-then = refl; owns-then = refl; memory = refl }
 
   -- ---- the command whose last node has come
-  module _ (order : Order) (count command : ℕ) (b : Begun) (m′ : Memory) (n : ℕ) (k : n ≡ min count 513) (e : begun b m′ ≡ orderCall order t m r (take n ps) (take n os)) where
+  module _ (order : Order) (count command : ℕ) (b : Begun) (m′ : Memory) (n : ℕ) (k : n ≡ min count 513) (qs : List Point) (q : qs ≡ pointsIn os) (e : begun b m′ ≡ orderCall order qs t m r (take n ps) (take n os)) where
     pub called-open : b .verdict ≡ Sound → called t ps os m r order count command ≡ waiting t ps os m′ (b .«record») (Working turnsMost)
     unfolding called
-    called-open s = rw (← k, ← e, s)
+    called-open s = rw (← k, ← q, ← e, s)
 
-    pub called-refused : (q : Refusal) → b .verdict ≡ Refused q
-        → called t ps os m r order count command ≡ record { mode = Command; text = refusalText (numberOf q) command; next = b .«record»; words = t; parts = ps; partOwns = os; memory = m′ }
+    pub called-refused : (why : Refusal) → b .verdict ≡ Refused why
+        → called t ps os m r order count command ≡ record { mode = Command; text = refusalText (numberOf why) command; next = b .«record»; words = t; parts = ps; partOwns = os; memory = m′ }
     unfolding called
-    called-refused q s = rw (← k, ← e, s)
+    called-refused why s = rw (← k, ← q, ← e, s)
 
 -- ---- a frame of the table: u the words behind it, and w those that the code left
 module _ (u w ps os : List ℕ) (m : Memory) (printed : ℕ) (out : List ℕ) (taken : Taken) where

@@ -4,6 +4,8 @@ use crate::opening::open_update;
 use frames::Expected;
 use frames::Frame;
 use frames::put_refusal;
+use naming::announced_in;
+use naming::keep_point;
 use owing::Mode;
 use owing::Order;
 use owing::Told;
@@ -21,7 +23,7 @@ ghost use Rattle.texts.specs.Read.{Awaits, takenAt, wordsAfter};
 ghost use Rattle.judging.specs.Lent.{lent};
 ghost use Rattle.judging.specs.Order.{Holding};
 ghost use Rattle.owing.specs.Owed.{Sound};
-ghost use Rattle.owing.specs.Hearing.{stopped, strange, modeOf, tabled, ordered, commanded, keptAt, noded, hearing, Hears, Spacious};
+ghost use Rattle.owing.specs.Hearing.{stopped, strange, modeOf, tabled, ordered, naming, commanded, keptAt, pointed, noded, hearing, Hears, Spacious};
 
 // "After 1 to 5, 13 or 14 it stops".
 fn stop(out: &mut [u8], printed: usize, record: Record, refusal: Refusal, line: u32) -> Told
@@ -96,7 +98,7 @@ fn hear_order(
     printed: usize,
 ) -> Told
     requires { ⌜ Holding (now table) (lent (now held) (now «held_owns») (now sets) (now before)) «record» ⌝ }
-    requires { ⌜ (513 ≤ length (now parts)) × (513 ≤ length (now «part_owns»)) × (printed + 13 ≤ length (now out)) ⌝ }
+    requires { ⌜ (513 ≤ length (now parts)) × (521 ≤ length (now «part_owns»)) × (printed + 13 ≤ length (now out)) ⌝ }
     ensures { λ r. ⌜ Hears (ordered (now (table .entry)) (now (parts .entry)) (now («part_owns» .entry)) (lent (now (held .entry)) (now («held_owns» .entry)) (now (sets .entry)) (now (before .entry))) «record» order count line) r printed (now (out .entry)) (now (out .exit)) (now (table .entry)) (now (parts .entry)) (now («part_owns» .entry)) (lent (now (held .exit)) (now («held_owns» .exit)) (now (sets .exit)) (now (before .exit))) ⌝ }
 {
     if count == 0 {
@@ -128,6 +130,53 @@ fn hear_order(
     }
 }
 
+// The first line of a command that names points: they are waited for, if it has any.
+fn hear_naming(
+    table: &[u64; 2657],
+    record: Record,
+    count: usize,
+    line: u32,
+    parts: &[u8],
+    part_owns: &[u64],
+    held: &mut [u8],
+    held_owns: &mut [u64],
+    sets: &mut [u64],
+    before: &mut [u64],
+    out: &mut [u8],
+    printed: usize,
+) -> Told
+    requires { ⌜ Holding (now table) (lent (now held) (now «held_owns») (now sets) (now before)) «record» ⌝ }
+    requires { ⌜ (513 ≤ length (now parts)) × (521 ≤ length (now «part_owns»)) × (printed + 13 ≤ length (now out)) ⌝ }
+    ensures { λ r. ⌜ Hears (naming (now (table .entry)) (now (parts .entry)) (now («part_owns» .entry)) (lent (now (held .entry)) (now («held_owns» .entry)) (now (sets .entry)) (now (before .entry))) «record» count line) r printed (now (out .entry)) (now (out .exit)) (now (table .entry)) (now (parts .entry)) (now («part_owns» .entry)) (lent (now (held .exit)) (now («held_owns» .exit)) (now (sets .exit)) (now (before .exit))) ⌝ }
+{
+    if count == 0 {
+        return open_update(
+            table,
+            record,
+            Order::Several(0),
+            0,
+            line,
+            parts,
+            part_owns,
+            held,
+            held_owns,
+            sets,
+            before,
+            out,
+            printed,
+        );
+    }
+    Told {
+        mode: Mode::Naming {
+            count: count,
+            taken: 0,
+            line: line,
+        },
+        record: record,
+        printed: printed,
+    }
+}
+
 // A command's first line.
 fn hear_command(
     table: &[u64; 2657],
@@ -144,7 +193,7 @@ fn hear_command(
     printed: usize,
 ) -> Told
     requires { ⌜ Holding (now table) (lent (now held) (now «held_owns») (now sets) (now before)) «record» ⌝ }
-    requires { ⌜ (513 ≤ length (now parts)) × (513 ≤ length (now «part_owns»)) × Spacious (now out) printed ⌝ }
+    requires { ⌜ (513 ≤ length (now parts)) × (521 ≤ length (now «part_owns»)) × Spacious (now out) printed ⌝ }
     ensures { λ r. ⌜ Hears (commanded (now (table .entry)) (now (parts .entry)) (now («part_owns» .entry)) (lent (now (held .entry)) (now («held_owns» .entry)) (now (sets .entry)) (now (before .entry))) «record» frame line) r printed (now (out .entry)) (now (out .exit)) (now (table .entry)) (now (parts .entry)) (now («part_owns» .entry)) (lent (now (held .exit)) (now («held_owns» .exit)) (now (sets .exit)) (now (before .exit))) ⌝ }
 {
     match frame {
@@ -178,6 +227,20 @@ fn hear_command(
             out,
             printed,
         ),
+        Frame::Corrections { count } => hear_naming(
+            table,
+            record,
+            count as usize,
+            line,
+            parts,
+            part_owns,
+            held,
+            held_owns,
+            sets,
+            before,
+            out,
+            printed,
+        ),
         Frame::Dump => tell_sets(
             table,
             record,
@@ -191,6 +254,65 @@ fn hear_command(
         ),
         _ => stop_at(out, printed, record, frame, line),
     }
+}
+
+// A point's line; behind the last one the nodes of all parts are waited for.
+fn hear_point(
+    table: &[u64; 2657],
+    record: Record,
+    count: usize,
+    taken: usize,
+    start: u32,
+    frame: Frame,
+    line: u32,
+    parts: &[u8],
+    part_owns: &mut [u64],
+    held: &mut [u8],
+    held_owns: &mut [u64],
+    sets: &mut [u64],
+    before: &mut [u64],
+    out: &mut [u8],
+    printed: usize,
+) -> Told
+    requires { ⌜ Holding (now table) (lent (now held) (now «held_owns») (now sets) (now before)) «record» ⌝ }
+    requires { ⌜ (513 ≤ length (now parts)) × (521 ≤ length (now «part_owns»)) × (printed + 13 ≤ length (now out)) × (taken < count) ⌝ }
+    ensures { λ r. ⌜ Hears (pointed count taken start frame line (now (table .entry)) (now (parts .entry)) (now («part_owns» .entry)) (lent (now (held .entry)) (now («held_owns» .entry)) (now (sets .entry)) (now (before .entry))) «record») r printed (now (out .entry)) (now (out .exit)) (now (table .entry)) (now (parts .entry)) (now («part_owns» .exit)) (lent (now (held .exit)) (now («held_owns» .exit)) (now (sets .exit)) (now (before .exit))) ⌝ }
+{
+    let Frame::Correction {
+        point,
+        count: nodes,
+    } = frame
+    else {
+        return stop_at(out, printed, record, frame, line);
+    };
+    keep_point(part_owns, taken, point, nodes);
+    if taken + 1 < count {
+        return Told {
+            mode: Mode::Naming {
+                count: count,
+                taken: taken + 1,
+                line: start,
+            },
+            record: record,
+            printed: printed,
+        };
+    }
+    let all = announced_in(&*part_owns, count);
+    hear_order(
+        table,
+        record,
+        Order::Several(count),
+        all,
+        start,
+        parts,
+        &*part_owns,
+        held,
+        held_owns,
+        sets,
+        before,
+        out,
+        printed,
+    )
 }
 
 // A node is kept while a tree may have so many.
@@ -224,7 +346,7 @@ fn hear_node(
     printed: usize,
 ) -> Told
     requires { ⌜ Holding (now table) (lent (now held) (now «held_owns») (now sets) (now before)) «record» ⌝ }
-    requires { ⌜ (513 ≤ length (now parts)) × (513 ≤ length (now «part_owns»)) × (printed + 13 ≤ length (now out)) × (taken < count) ⌝ }
+    requires { ⌜ (513 ≤ length (now parts)) × (521 ≤ length (now «part_owns»)) × (printed + 13 ≤ length (now out)) × (taken < count) ⌝ }
     ensures { λ r. ⌜ Hears (noded order count taken command frame line (now (table .entry)) (now (parts .entry)) (now («part_owns» .entry)) (lent (now (held .entry)) (now («held_owns» .entry)) (now (sets .entry)) (now (before .entry))) «record») r printed (now (out .entry)) (now (out .exit)) (now (table .entry)) (now (parts .exit)) (now («part_owns» .exit)) (lent (now (held .exit)) (now («held_owns» .exit)) (now (sets .exit)) (now (before .exit))) ⌝ }
 {
     let Frame::Node { production, own } = frame else {
@@ -276,8 +398,8 @@ pub fn hear(
     out: &mut [u8],
     printed: usize,
 ) -> Told
-    requires { ⌜ (length (now table) ≡ 2657) × Sound mode (now table) (lent (now held) (now «held_owns») (now sets) (now before)) «record» ⌝ }
-    requires { ⌜ (513 ≤ length (now parts)) × (513 ≤ length (now «part_owns»)) × Spacious (now out) printed ⌝ }
+    requires { ⌜ (length (now table) ≡ 2657) × Sound mode (now table) (now «part_owns») (lent (now held) (now «held_owns») (now sets) (now before)) «record» ⌝ }
+    requires { ⌜ (513 ≤ length (now parts)) × (521 ≤ length (now «part_owns»)) × Spacious (now out) printed ⌝ }
     ensures { λ r. ⌜ Hears (hearing mode frame line (now (table .entry)) (now (parts .entry)) (now («part_owns» .entry)) (lent (now (held .entry)) (now («held_owns» .entry)) (now (sets .entry)) (now (before .entry))) «record») r printed (now (out .entry)) (now (out .exit)) (now (table .exit)) (now (parts .exit)) (now («part_owns» .exit)) (lent (now (held .exit)) (now («held_owns» .exit)) (now (sets .exit)) (now (before .exit))) ⌝ }
 {
     match mode {
@@ -289,6 +411,27 @@ pub fn hear(
             line,
             &*parts,
             &*part_owns,
+            held,
+            held_owns,
+            sets,
+            before,
+            out,
+            printed,
+        ),
+        Mode::Naming {
+            count,
+            taken,
+            line: command,
+        } => hear_point(
+            &*table,
+            record,
+            count,
+            taken,
+            command,
+            frame,
+            line,
+            &*parts,
+            part_owns,
             held,
             held_owns,
             sets,

@@ -1,12 +1,16 @@
 // The command whose last node has come: it is judged as a whole, and opens an update or is refused.
 use frames::put_refusal;
+use naming::points_in;
 use opens::Begun;
 use opens::load_judged;
 use opens::replace_judged;
+use opens::replace_points_judged;
 use owing::Mode;
 use owing::Order;
 use owing::Told;
 use refusal::Verdict;
+use tree::Places;
+use tree::Point;
 use update::Record;
 ghost use mathlib.Core.Path.{_≡_};
 ghost use Prim.Native.Nat.{_+_, _≤_, min};
@@ -26,11 +30,12 @@ fn at_most(count: usize) -> usize
     if count < 513 { count } else { 513 }
 }
 
-// The call that the command asks for.
+// The call that the command asks for, with the points that came before its nodes.
 fn call_order(
     table: &[u64; 2657],
     record: Record,
     order: Order,
+    points: [Point; 8],
     new: &[u8],
     new_owns: &[u64],
     held: &mut [u8],
@@ -39,7 +44,7 @@ fn call_order(
     before: &mut [u64],
 ) -> Begun
     requires { ⌜ Holding (now table) (lent (now held) (now «held_owns») (now sets) (now before)) «record» ⌝ }
-    ensures { λ r. ⌜ begun r (lent (now (held .exit)) (now («held_owns» .exit)) (now (sets .exit)) (now (before .exit))) ≡ orderCall order (now (table .entry)) (lent (now (held .entry)) (now («held_owns» .entry)) (now (sets .entry)) (now (before .entry))) «record» (now (new .entry)) (now («new_owns» .entry)) ⌝ }
+    ensures { λ r. ⌜ begun r (lent (now (held .exit)) (now («held_owns» .exit)) (now (sets .exit)) (now (before .exit))) ≡ orderCall order points (now (table .entry)) (lent (now (held .entry)) (now («held_owns» .entry)) (now (sets .entry)) (now (before .entry))) «record» (now (new .entry)) (now («new_owns» .entry)) ⌝ }
 {
     match order {
         Order::Load => load_judged(table, record, new, new_owns, held, held_owns, sets, before),
@@ -47,6 +52,20 @@ fn call_order(
             table,
             record,
             point,
+            new,
+            new_owns,
+            held,
+            held_owns,
+            sets,
+            before,
+        ),
+        Order::Several(count) => replace_points_judged(
+            table,
+            record,
+            Places {
+                count: count,
+                points: points,
+            },
             new,
             new_owns,
             held,
@@ -74,14 +93,16 @@ pub fn open_update(
     printed: usize,
 ) -> Told
     requires { ⌜ Holding (now table) (lent (now held) (now «held_owns») (now sets) (now before)) «record» ⌝ }
-    requires { ⌜ (513 ≤ length (now parts)) × (513 ≤ length (now «part_owns»)) × (printed + 13 ≤ length (now out)) ⌝ }
+    requires { ⌜ (513 ≤ length (now parts)) × (521 ≤ length (now «part_owns»)) × (printed + 13 ≤ length (now out)) ⌝ }
     ensures { λ r. ⌜ Hears (called (now (table .entry)) (now (parts .entry)) (now («part_owns» .entry)) (lent (now (held .entry)) (now («held_owns» .entry)) (now (sets .entry)) (now (before .entry))) «record» order count line) r printed (now (out .entry)) (now (out .exit)) (now (table .entry)) (now (parts .entry)) (now («part_owns» .entry)) (lent (now (held .exit)) (now («held_owns» .exit)) (now (sets .exit)) (now (before .exit))) ⌝ }
 {
     let n = at_most(count);
+    let points = points_in(part_owns);
     let begun = call_order(
         table,
         record,
         order,
+        points,
         &parts[..n],
         &part_owns[..n],
         held,

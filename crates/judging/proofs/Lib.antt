@@ -1,3 +1,6 @@
 pub mod Orders
 pub mod Tests
 pub mod Parts
+pub mod Walks
+pub mod Outlines
+pub mod Rows

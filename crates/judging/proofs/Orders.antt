@@ -1,31 +1,30 @@
 -- The parts of an order of refusals, one behind the other. Assumes nothing.
 use mathlib.Core.Path.{_≡_, refl, sym, _∙_, subst}
-use mathlib.Core.Bool.{Bool, true, false, cond, not}
+use mathlib.Core.Bool.{Bool, true, false, not}
 use mathlib.Core.Logic.{⊎-elim}
 use mathlib.Core.List.{List, [], _∷_, _++_}
 use Prim.Native.Nat.{ℕ, zero, suc, _+_, _-_, _≤_, _<_}
 use native.Mathlib.Omega.{arith}
-use borrow.Author.Tests.{ltb-false, leb-false, eqb-true, lt-ltb, le-ltb, lt-leb, eq-eqb, ne-eqb, not-false}
-use lib.Dec.{ltb, leb, eqb}
-use lib.ListN.{length, getD}
+use borrow.Author.Tests.{ltb-false, lt-ltb, le-ltb, eq-eqb, ne-eqb, not-false}
+use lib.Dec.{ltb}
+use lib.ListN.{length}
 use Rattle.refusal.specs.Numbers.{numberOf}
 use Rattle.refusal.specs.declared.Refusal.{Refusal}
 use Rattle.refusal.proofs.Distinct.{number-low}
 use Rattle.table.specs.First.{orElse, first}
-use Rattle.table.specs.Words.{leftOf}
 use Rattle.table.specs.Judge.{judgeTable}
 use Rattle.table.proofs.FirstLaws.{or-left, or-right, or-none, first-append, first-one}
 use Rattle.tree.specs.Tree.{judgeNodes, judgeTree}
-use Rattle.tree.specs.Replace.{part}
+use Rattle.tree.specs.Points.{Part, nodesRow, leavingRow, comingRow, overlaps}
 use Rattle.climb.proofs.Lists.{either}
 use Rattle.update.specs.declared.Record.{Record}
 use Rattle.update.specs.Records.{isOpen, beyond}
 use Rattle.update.specs.Memories.{Memory, nodesOf}
-use Rattle.update.specs.Refusals.{firstRefusal, when, short, heldRefusal, loadRefusal, passes, nodesThen, replaceRefusal, stepRefusal, readRefusal}
+use Rattle.update.specs.Refusals.{firstRefusal, when, short, heldRefusal, loadRefusal, miscounted, missing, nodesLeft, partsRefusal, pointsRefusal, stepRefusal, readRefusal}
 use Rattle.update.proofs.Within.{short-means, beyond-means}
 pub use Rattle.update.proofs.Ready.{tree-equal, tree-sound}
 use Rattle.wire.specs.Instances.{declared}
-use Rattle.judging.specs.Order.{groundNumbers, loadNumbers, heldNumbers, lookNumbers, pointNumbers, partNumbers, waiverNumbers, goingNumbers, Grounded, Holding, Going}
+use Rattle.judging.specs.Order.{groundNumbers, loadNumbers, heldNumbers, lookNumbers, aimNumbers, namedNumbers, rowNumbers, waiverNumbers, goingNumbers, Grounded, Holding, Named, Going}
 
 module _ (l k : List ℕ) where
   -- where the first part refuses nothing the second decides
@@ -137,57 +136,70 @@ module _ (t : List ℕ) (m : Memory) (r : Record) where
   unfolding first
   step-none k = step-past (k .ground) ∙ rw (k .held, k .tree, k .busy)
 
-  -- ---- a replacement
+  -- ---- a replacement at several points, of parts ps in any shape that has the points and counts of others
 
-  module _ (point : ℕ) (new newOwns : List ℕ) where
-    newNumber : ℕ
-    newNumber = judgeTree t new newOwns (leftOf t (getD (nodesOf m (r .nodes)) point 0))
+  module _ (ps : List Part) where
+    -- what the tests on the tree say, and 21
+    abbrev pub treeNumbers : List ℕ
+    treeNumbers = rowNumbers t (nodesOf m (r .nodes)) (r .nodes) ps ++ waiverNumbers t (nodesRow t (nodesOf m (r .nodes)) ps)
 
-    pub replace-stopped : (q : Refusal) → numberOf q ≡ firstRefusal (lookNumbers t m r) → numberOf q ≡ replaceRefusal t m r point new newOwns
-    unfolding replaceRefusal newNumber
-    replace-stopped q e = stopped (lookNumbers t m r) (when (leb (r .nodes) point) 9 ∷ when (passes t m r point new) 8 ∷ newNumber ∷ waiverNumbers t (nodesThen t m r point new)) q e
+    pub aim-stopped : (q : Refusal) → numberOf q ≡ firstRefusal (aimNumbers t m r ps) → numberOf q ≡ pointsRefusal t m r ps
+    unfolding pointsRefusal nodesLeft
+    aim-stopped q e = stopped (aimNumbers t m r ps) (when (missing (r .nodes) ps) 9 ∷ treeNumbers) q e
 
-    -- the new part's numbers, where its old part is counted
-    abbrev pub newNumbers : List ℕ
-    newNumbers = partNumbers t (nodesOf m (r .nodes)) (r .nodes) point (part t (nodesOf m (r .nodes)) point) new newOwns
-
-    -- and then the new tree's
-    abbrev lastNumbers : List ℕ
-    lastNumbers = waiverNumbers t (nodesThen t m r point new)
-
-    replace-past : Holding t m r → replaceRefusal t m r point new newOwns ≡ firstRefusal (pointNumbers r point ++ (newNumbers ++ lastNumbers))
-    unfolding replaceRefusal passes first newNumber
-    replace-past k =
-        past (groundNumbers t m r) (when (isOpen (r .«open»)) 10 ∷ when (not (r .held)) 16 ∷ heldRefusal t m r ∷ when (leb (r .nodes) point) 9 ∷ (newNumbers ++ lastNumbers)) (ground-none (k .ground))
+    points-past : Holding t m r → pointsRefusal t m r ps ≡ firstRefusal (namedNumbers r ps ++ treeNumbers)
+    unfolding pointsRefusal nodesLeft first
+    points-past k =
+        past (groundNumbers t m r) (when (isOpen (r .«open»)) 10 ∷ when (miscounted ps) 22 ∷ when (not (r .held)) 16 ∷ heldRefusal t m r ∷ when (missing (r .nodes) ps) 9 ∷ treeNumbers) (ground-none (k .ground))
         ∙ ⊎-elim (λ (h : r .held ≡ true). rw (k .tree h)) (λ (h : r .held ≡ false). rw h) (either (r .held))
 
-    pub point-stopped : Holding t m r → (q : Refusal) → numberOf q ≡ firstRefusal (pointNumbers r point) → numberOf q ≡ replaceRefusal t m r point new newOwns
-    point-stopped k q e = stopped (pointNumbers r point) (newNumbers ++ lastNumbers) q e ∙ sym (replace-past k)
+    pub named-stopped : Holding t m r → (q : Refusal) → numberOf q ≡ firstRefusal (namedNumbers r ps) → numberOf q ≡ pointsRefusal t m r ps
+    named-stopped k q e = stopped (namedNumbers r ps) treeNumbers q e ∙ sym (points-past k)
 
-    pub point-past : Holding t m r → firstRefusal (pointNumbers r point) ≡ 0 → replaceRefusal t m r point new newOwns ≡ firstRefusal (newNumbers ++ lastNumbers)
-    point-past k h = replace-past k ∙ past (pointNumbers r point) (newNumbers ++ lastNumbers) h
+    pub named-past : Holding t m r → firstRefusal (namedNumbers r ps) ≡ 0 → pointsRefusal t m r ps ≡ firstRefusal treeNumbers
+    named-past k h = points-past k ∙ past (namedNumbers r ps) treeNumbers h
 
-  -- the point is one where a replacement may be
-  pub record Pointed (point : ℕ) : Type 0 where
-    pub closed : isOpen (r .«open») ≡ false
-    pub held : r .held ≡ true
-    pub below : point < r .nodes
+    -- what is known behind those
+    pub record AimedAt : Type 0 where
+      pub ground : Grounded t m r
+      pub closed : isOpen (r .«open») ≡ false
+      pub counted : miscounted ps ≡ false
+      pub held : r .held ≡ true
+      pub tree : heldRefusal t m r ≡ 0
 
-  pub pointed : (point : ℕ) → firstRefusal (pointNumbers r point) ≡ 0 → Pointed point
-  unfolding first
-  pointed point h =
-      let a = or-none (when (isOpen (r .«open»)) 10) (orElse (when (not (r .held)) 16) (orElse (when (leb (r .nodes) point) 9) 0)) h in
-      let b = or-none (when (not (r .held)) 16) (orElse (when (leb (r .nodes) point) 9) 0) (a .1) in
-      let c = or-none (when (leb (r .nodes) point) 9) 0 (b .1) in
-      record {
-        closed = unmet (isOpen (r .«open»)) 9 (a .0);
-        held = not-false (r .held) (unmet (not (r .held)) 15 (b .0));
-        below = leb-false (r .nodes) point (unmet (leb (r .nodes) point) 8 (c .0));
-      }
+    pub aimed-at : firstRefusal (aimNumbers t m r ps) ≡ 0 → AimedAt
+    unfolding first
+    aimed-at h =
+        let rest = when (isOpen (r .«open»)) 10 ∷ when (miscounted ps) 22 ∷ when (not (r .held)) 16 ∷ heldRefusal t m r ∷ [] in
+        let a = or-none (firstRefusal (groundNumbers t m r)) (firstRefusal rest) (sym (first-append (λ (n : ℕ). n) (groundNumbers t m r) rest) ∙ h) in
+        let b = or-none (when (isOpen (r .«open»)) 10) (orElse (when (miscounted ps) 22) (orElse (when (not (r .held)) 16) (orElse (heldRefusal t m r) 0))) (a .1) in
+        let c = or-none (when (miscounted ps) 22) (orElse (when (not (r .held)) 16) (orElse (heldRefusal t m r) 0)) (b .1) in
+        let d = or-none (when (not (r .held)) 16) (orElse (heldRefusal t m r) 0) (c .1) in
+        record {
+          ground = grounded (a .0);
+          closed = unmet (isOpen (r .«open»)) 9 (b .0);
+          counted = unmet (miscounted ps) 21 (c .0);
+          held = not-false (r .held) (unmet (not (r .held)) 15 (d .0));
+          tree = or-none (heldRefusal t m r) 0 (d .1) .0;
+        }
 
-  pub point-none : (point : ℕ) → isOpen (r .«open») ≡ false → r .held ≡ true → point < r .nodes → firstRefusal (pointNumbers r point) ≡ 0
-  unfolding first
-  point-none point o h l = rw (o, h, lt-leb (r .nodes) point l)
+    pub named : firstRefusal (namedNumbers r ps) ≡ 0 → Named r ps
+    unfolding first
+    named h =
+        let a = or-none (when (isOpen (r .«open»)) 10) (orElse (when (miscounted ps) 22) (orElse (when (not (r .held)) 16) (orElse (when (missing (r .nodes) ps) 9) 0))) h in
+        let b = or-none (when (miscounted ps) 22) (orElse (when (not (r .held)) 16) (orElse (when (missing (r .nodes) ps) 9) 0)) (a .1) in
+        let c = or-none (when (not (r .held)) 16) (orElse (when (missing (r .nodes) ps) 9) 0) (b .1) in
+        let d = or-none (when (missing (r .nodes) ps) 9) 0 (c .1) in
+        record {
+          closed = unmet (isOpen (r .«open»)) 9 (a .0);
+          counted = unmet (miscounted ps) 21 (b .0);
+          held = not-false (r .held) (unmet (not (r .held)) 15 (c .0));
+          inside = unmet (missing (r .nodes) ps) 8 (d .0);
+        }
+
+    pub named-none : Named r ps → firstRefusal (namedNumbers r ps) ≡ 0
+    unfolding first
+    named-none k = rw (k .closed, k .counted, k .held, k .inside)
 
 -- ---- what the code finds, number by number
 
@@ -228,34 +240,37 @@ loads t r ns owns h =
     let c = or-none (judgeTree t ns owns 0) 0 (b .1) in
     record { few = ltb-false 512 (length ns) (unmet (ltb 512 (length ns)) 7 (b .0)); equal = tree-equal t ns owns 0 (c .0); sound = tree-sound t ns owns 0 (c .0) }
 
-module _ (t tree : List ℕ) (nodes point old : ℕ) (new newOwns : List ℕ) (n : nodes ≤ 512) (k : old ≤ nodes) where
-  pub part-size : 512 - (nodes - old) < length new → 8 ≡ firstRefusal (partNumbers t tree nodes point old new newOwns)
+-- ---- 23, 8 and the parts', of a tree of so many nodes
+
+module _ (t ns : List ℕ) (nodes : ℕ) (ps : List Part) where
+  abbrev left : ℕ
+  left = nodes - leavingRow t ns ps + comingRow ps
+
+  pub row-meets : overlaps t ns 0 ps ≡ true → 23 ≡ firstRefusal (rowNumbers t ns nodes ps)
   unfolding first
-  part-size h = let l : 512 < nodes - old + length new = omega arith in rw (lt-ltb 512 (nodes - old + length new) l)
+  row-meets h = rw h
 
-  part-last : length new ≤ 512 - (nodes - old) → judgeTree t new newOwns (leftOf t (getD tree point 0)) ≡ firstRefusal (partNumbers t tree nodes point old new newOwns)
+  pub row-passes : overlaps t ns 0 ps ≡ false → ltb 512 left ≡ true → 8 ≡ firstRefusal (rowNumbers t ns nodes ps)
   unfolding first
-  part-last h =
-      let l : nodes - old + length new ≤ 512 = omega arith in
-      rw (le-ltb 512 (nodes - old + length new) l) (sym (or-zero (judgeTree t new newOwns (leftOf t (getD tree point 0)))))
+  row-passes h k = rw (h, k)
 
-  pub part-unequal : length new ≤ 512 - (nodes - old) → (length new ≡ length newOwns → ⊥) → 7 ≡ firstRefusal (partNumbers t tree nodes point old new newOwns)
-  part-unequal h f = tree-unequal t new newOwns (leftOf t (getD tree point 0)) f ∙ part-last h
+  pub row-parts : overlaps t ns 0 ps ≡ false → ltb 512 left ≡ false → partsRefusal t ns ps ≡ firstRefusal (rowNumbers t ns nodes ps)
+  unfolding first
+  row-parts h k = rw (h, k) (sym (or-zero (partsRefusal t ns ps)))
 
-  pub part-judged : length new ≤ 512 - (nodes - old) → length new ≡ length newOwns → (s : ℕ) → s ≡ leftOf t (getD tree point 0)
-      → judgeNodes t new (s ∷ []) ≡ firstRefusal (partNumbers t tree nodes point old new newOwns)
-  part-judged h e s f = rw f (tree-judged t new newOwns (leftOf t (getD tree point 0)) e ∙ part-last h)
+  -- where none refuses
+  pub record Fits : Type 0 where
+    pub apart : overlaps t ns 0 ps ≡ false
+    pub few : left ≤ 512
+    pub sound : partsRefusal t ns ps ≡ 0
 
-pub record Parts (t : List ℕ) (nodes old : ℕ) (new newOwns : List ℕ) (s : ℕ) : Type 0 where
-  pub few : nodes - old + length new ≤ 512
-  pub sound : judgeTree t new newOwns s ≡ 0
-
-pub parts : (t tree : List ℕ) (nodes point old : ℕ) (new newOwns : List ℕ) → firstRefusal (partNumbers t tree nodes point old new newOwns) ≡ 0 → Parts t nodes old new newOwns (leftOf t (getD tree point 0))
-unfolding first
-parts t tree nodes point old new newOwns h =
-    let j = judgeTree t new newOwns (leftOf t (getD tree point 0)) in
-    let a = or-none (when (ltb 512 (nodes - old + length new)) 8) (orElse j 0) h in
-    record { few = ltb-false 512 (nodes - old + length new) (unmet (ltb 512 (nodes - old + length new)) 7 (a .0)); sound = or-none j 0 (a .1) .0 }
+  pub fits : firstRefusal (rowNumbers t ns nodes ps) ≡ 0 → Fits
+  unfolding first
+  fits h =
+      let p = partsRefusal t ns ps in
+      let a = or-none (when (overlaps t ns 0 ps) 23) (orElse (when (ltb 512 left) 8) (orElse p 0)) h in
+      let b = or-none (when (ltb 512 left) 8) (orElse p 0) (a .1) in
+      record { apart = unmet (overlaps t ns 0 ps) 22 (a .0); few = ltb-false 512 left (unmet (ltb 512 left) 7 (b .0)); sound = or-none p 0 (b .1) .0 }
 
 -- ---- 16 and the held tree's, then 17
 module _ (t held owns : List ℕ) (r : Record) where

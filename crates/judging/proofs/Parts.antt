@@ -1,7 +1,7 @@
 -- The held tree: its nodes' numbers, its declared instances, and the count of a subtree node by node. Assumes nothing.
 use mathlib.Core.Path.{_≡_, refl, ap, sym, _∙_, subst}
 use mathlib.Core.Bool.{Bool, true, false, _&&_, true≢false}
-use mathlib.Core.List.{List, [], _∷_}
+use mathlib.Core.List.{List}
 use Prim.Native.Nat.{ℕ, suc, _+_, _-_, _*_, _/_, _%_, _≤_, _<_}
 use native.Mathlib.Numerals.{add-one}
 use native.Mathlib.Omega.{arith}
@@ -10,7 +10,7 @@ use lib.Dec.{ltb}
 use lib.ListN.{length, getD, take, drop, drop-of-length-le, length-drop}
 use lib.Seq.{length-take-le, getD-take, drop-cons}
 use Rattle.table.specs.Words.{productionCount, leftOf, childCount, hasSet}
-use Rattle.tree.specs.Tree.{judgeNodes, size}
+use Rattle.tree.specs.Tree.{size}
 use Rattle.tree.specs.Replace.{part}
 use Rattle.tree.proofs.Size.{size-zero, size-le}
 use Rattle.wire.specs.Instances.{declared}
@@ -79,9 +79,3 @@ part-fits t ns point h =
     let s = size-le t (drop point ns) 1 in
     let d = length-drop point ns in
     (omega arith, omega arith)
-
--- a sound tree has a node
-pub some-nodes : (t ns : List ℕ) (s : ℕ) → judgeNodes t ns (s ∷ []) ≡ 0 → 0 < length ns
-unfolding judgeNodes
-some-nodes t [] s h = absurd (omega arith)
-some-nodes t (n ∷ ns) s h = omega arith

@@ -1,2 +1,4 @@
 pub mod Lent
+pub mod Limits
+pub mod Cuts
 pub mod Order

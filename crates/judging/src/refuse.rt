@@ -1,23 +1,23 @@
 // The refusals of the calls, in document 01's order.
-use crate::trees::wide;
+use crate::limits::is_beyond;
+use crate::limits::is_open;
+use crate::points::judge_asked;
 use checking::judge_table;
 use refusal::Refusal;
 use refusal::Verdict;
-use table::left_of;
+use tree::Places;
 use tree::judge_held;
 use tree::judge_nodes;
-use update::Open;
 use update::Record;
 ghost use mathlib.Core.Path.{_≡_};
-ghost use Prim.Native.Nat.{_<_, _≤_};
-ghost use lib.ListN.{length, take};
+ghost use Prim.Native.Nat.{_≤_};
+ghost use lib.ListN.{length};
 ghost use Rattle.refusal.specs.Numbers.{verdictOf};
 ghost use Rattle.table.specs.Judge.{judgeTable};
-ghost use Rattle.memory.specs.Numbered.{Numbered};
-ghost use Rattle.update.specs.Records.{isOpen, beyond};
+ghost use Rattle.tree.specs.Handed.{namedPoints, bareRow};
 ghost use Rattle.update.specs.Refusals.{firstRefusal, short, stepRefusal};
 ghost use Rattle.judging.specs.Lent.{lent};
-ghost use Rattle.judging.specs.Order.{groundNumbers, loadNumbers, heldNumbers, goingNumbers, lookNumbers, pointNumbers, partNumbers};
+ghost use Rattle.judging.specs.Order.{groundNumbers, loadNumbers, heldNumbers, goingNumbers, lookNumbers, aimNumbers};
 
 // 15: whether a lent buffer is shorter than 512 nodes or 4,096 sets.
 fn is_short(held: &[u8], held_owns: &[u64], sets: &[u64], before: &[u64]) -> bool
@@ -34,57 +34,6 @@ fn is_short(held: &[u8], held_owns: &[u64], sets: &[u64], before: &[u64]) -> boo
     }
     if before.len() < 4096 {
         return true;
-    }
-    false
-}
-
-fn is_open(open: Open) -> bool
-    ensures { λ r. ⌜ r ≡ isOpen «open» ⌝ }
-{
-    match open {
-        Open::Nothing => false,
-        Open::Load => true,
-        Open::Replacement => true,
-    }
-}
-
-// 11: whether a field is beyond its limit, or an open record's point or new part lies outside the tree.
-fn is_beyond(record: Record) -> bool
-    ensures { λ r. ⌜ r ≡ beyond «record» ⌝ }
-{
-    let nodes = record.nodes;
-    let point = record.point;
-    let part = record.part;
-    if Record::NODES < nodes {
-        return true;
-    }
-    if Record::NODES < point {
-        return true;
-    }
-    if Record::NODES < part {
-        return true;
-    }
-    if Record::CIRCLES < record.rank as u64 {
-        return true;
-    }
-    if Record::ROUND < record.round {
-        return true;
-    }
-    if Record::CIRCLES < record.circles {
-        return true;
-    }
-    if Record::EVALUATIONS < record.evaluations {
-        return true;
-    }
-    let open = record.open;
-    if is_open(open) {
-        if nodes <= point {
-            return true;
-        }
-        if nodes < point + part {
-            return true;
-        }
-        return false;
     }
     false
 }
@@ -167,45 +116,25 @@ pub fn judge_look(
     }
 }
 
-// What a replacement is refused by where a held tree is sound: 10, 16, 9.
-pub fn judge_point(record: Record, point: usize) -> Verdict
-    ensures { λ r. ⌜ verdictOf r ≡ firstRefusal (pointNumbers «record» point) ⌝ }
-{
-    let open = record.open;
-    if is_open(open) {
-        return Verdict::Refused(Refusal::Busy);
-    }
-    if record.held {
-        if record.nodes <= point {
-            return Verdict::Refused(Refusal::Point);
-        }
-        return Verdict::Sound;
-    }
-    Verdict::Refused(Refusal::Absent)
-}
-
-// And then by the new part, where `old` of the `nodes` nodes make way: 8, 6/7.
-pub fn judge_part(
+// What a replacement is refused by before its points are looked at: 15, 1 to 5, 11, 10, 22, 16, the held tree's 6/7.
+pub fn judge_aim(
     table: &[u64; 2657],
+    record: Record,
+    points: Places,
     held: &[u8],
-    nodes: usize,
-    point: usize,
-    old: usize,
-    new: &[u8],
-    new_owns: &[u64],
+    held_owns: &[u64],
+    sets: &[u64],
+    before: &[u64],
 ) -> Verdict
-    requires { ⌜ judgeTable (now table) ≡ 0 ⌝ }
-    requires { ⌜ Numbered (now table) (take nodes (now held)) ⌝ }
-    requires { ⌜ (point < nodes) × (old ≤ nodes) × (nodes ≤ 512) × (nodes ≤ length (now held)) ⌝ }
-    ensures { λ r. ⌜ verdictOf r ≡ firstRefusal (partNumbers (now (table .entry)) (take nodes (now (held .entry))) nodes point old (now (new .entry)) (now («new_owns» .entry))) ⌝ }
+    ensures { λ r. ⌜ verdictOf r ≡ firstRefusal (aimNumbers (now (table .entry)) (lent (now (held .entry)) (now («held_owns» .entry)) (now (sets .entry)) (now (before .entry))) «record» (bareRow (namedPoints points))) ⌝ }
 {
-    if Record::NODES - (nodes - old) < new.len() {
-        return Verdict::Refused(Refusal::Size);
+    match judge_ground(table, record, held, held_owns, sets, before) {
+        Verdict::Sound => match judge_asked(record, points) {
+            Verdict::Sound => judge_holding(table, record, held, held_owns),
+            Verdict::Refused(r) => Verdict::Refused(r),
+        },
+        Verdict::Refused(r) => Verdict::Refused(r),
     }
-    if new.len() != new_owns.len() {
-        return Verdict::Refused(Refusal::Shape);
-    }
-    judge_nodes(table, new, left_of(table, wide(held[point])))
 }
 
 // 16, the held tree's 6/7, 17.

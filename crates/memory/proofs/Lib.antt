@@ -1,5 +1,8 @@
 pub mod Placed
 pub mod Slots
-pub mod Arranged
 pub mod Numbered
+pub mod Laying
+pub mod Spliced
+pub mod Arranged
+pub mod Rows
 pub mod Fields

@@ -1,19 +1,16 @@
--- Every node's production number is below the count: in a judged tree, and in a tree made of two such. Assumes nothing.
-use mathlib.Core.Path.{_≡_, refl, ap, sym, _∙_, subst}
+-- Every node's production number is below the count in a judged tree. Assumes nothing.
+use mathlib.Core.Path.{_≡_, refl}
 use mathlib.Core.Bool.{Bool, true, false, cond}
 use mathlib.Core.List.{List, [], _∷_, _++_}
-use Prim.Native.Nat.{ℕ, zero, suc, _+_, _-_, _≤_, _<_}
+use Prim.Native.Nat.{ℕ, zero, suc, _+_, _-_, _<_}
 use native.Mathlib.Nat.{le-of-suc-le-suc, not-suc-le-zero}
-use native.Mathlib.Decide.{decLt}
 use native.Mathlib.Omega.{arith}
 use borrow.Author.Tests.{ltb-true}
 use lib.Dec.{ltb, eqb}
 use lib.ListN.{length, getD}
 use Rattle.table.specs.Words.{productionCount, leftOf, children}
 use Rattle.tree.specs.Tree.{judgeNodes}
-use Rattle.tree.specs.Replace.{exchanged}
 use Rattle.memory.specs.Numbered.{Numbered}
-use Rattle.memory.proofs.Placed.{length-exchanged, exchanged-front, exchanged-new, exchanged-rest}
 
 -- the number of a first node with a bad production is 6, so not 0
 first-below : (b : Bool) (n : ℕ) → cond b n 6 ≡ 0 → b ≡ true
@@ -38,16 +35,3 @@ judged t (p ∷ ns) (s ∷ wanted) h (suc i) k = judged t ns (children t p ++ wa
 
 pub judged-numbered : (t ns wanted : List ℕ) → judgeNodes t ns wanted ≡ 0 → Numbered t ns
 judged-numbered t ns wanted h = record { below = judged t ns wanted h }
-
-pub exchanged-numbered : (t ns new : List ℕ) (r k : ℕ) → r + k ≤ length ns → Numbered t ns → Numbered t new → Numbered t (exchanged ns r k new)
-exchanged-numbered t ns new r k h a b = record {
-  below = λ i m.
-      let e = length-exchanged ns r k new h in
-      elim (decLt i r) [
-        | yes p ↦ subst (λ v. v < productionCount t) (sym (exchanged-front ns new r k h i p)) (a .below i (omega arith))
-        | no p ↦ elim (decLt i (r + length new)) [
-          | yes q ↦ subst (λ v. v < productionCount t) (sym (exchanged-new ns new r k h i (omega arith) q)) (b .below (i - r) (omega arith))
-          | no q ↦ subst (λ v. v < productionCount t) (sym (exchanged-rest ns new r k h i (omega arith))) (a .below (i - length new + k) (omega arith))
-        ]
-      ];
-}

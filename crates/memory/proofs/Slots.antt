@@ -15,7 +15,7 @@ use Rattle.circles.proofs.Lists.{map-at, map-long}
 use Rattle.table.specs.Words.{synthesized, inherited, leftOf, hasSet}
 use Rattle.wire.specs.Instances.{nodeOf, indexOf, declared}
 use Rattle.memory.specs.Cleared.{among, clearedAt, cleared}
-use Rattle.buffers.proofs.Moves.{paste-before, paste-inside, paste-behind}
+use Rattle.buffers.proofs.Pastes.{paste-before, paste-inside, paste-behind}
 use Rattle.memory.proofs.Placed.{getD-zeros}
 
 -- ---- a list by its slots

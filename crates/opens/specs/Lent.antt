@@ -5,9 +5,11 @@ use Prim.Native.Nat.{ℕ}
 use Rattle.refusal.specs.Numbers.{numberOf}
 use Rattle.refusal.specs.declared.Verdict.{Verdict}
 use Rattle.refusal.specs.declared.Verdict.the-variants.{Sound, Refused}
+use Rattle.tree.specs.declared.Places.{Places}
+use Rattle.tree.specs.Handed.{namedPoints, handedRow}
 use Rattle.update.specs.declared.Record.{Record}
 use Rattle.update.specs.Memories.{Memory}
-use Rattle.update.specs.Calls.{Said, refused, said, Left, Opened, is-open, loadCall, replaceCall}
+use Rattle.update.specs.Calls.{Said, refused, said, Left, Opened, is-open, loadCall, pointsCall, replaceCall}
 use Rattle.opens.specs.declared.Begun.{Begun}
 pub use Rattle.judging.specs.Lent.{lent}
 
@@ -25,6 +27,10 @@ begun b m = record { answer = openedSays (b .verdict); next = b .«record»; mem
 abbrev pub LoadLeaves : List ℕ → Memory → Record → List ℕ → List ℕ → Begun → Memory → Type 0
 LoadLeaves t m r ns owns answer m′ = begun answer m′ ≡ loadCall t m r ns owns
 
--- and a replacement at a point
+-- and a replacement at points, whose parts are handed in one behind the other
+abbrev pub PointsLeave : List ℕ → Memory → Record → Places → List ℕ → List ℕ → Begun → Memory → Type 0
+PointsLeave t m r points new newOwns answer m′ = begun answer m′ ≡ pointsCall t m r (handedRow (namedPoints points) new newOwns)
+
+-- and at one point
 abbrev pub ReplaceLeaves : List ℕ → Memory → Record → ℕ → List ℕ → List ℕ → Begun → Memory → Type 0
 ReplaceLeaves t m r point new newOwns answer m′ = begun answer m′ ≡ replaceCall t m r point new newOwns

@@ -11,6 +11,7 @@ use lib.Dec.{leb, ltb}
 use lib.ListN.{length, take, set, replicate, length-append, length-replicate, length-set}
 use lib.Seq.{length-take-le, take-suc-set}
 use Rattle.lines.proofs.Values.{lt-or-ge}
+use Rattle.tree.specs.declared.Point.{Point}
 use Rattle.update.specs.declared.Record.{Record}
 use Rattle.update.specs.Memories.{Memory}
 use Rattle.update.specs.Calls.{Said, Left, Opened}
@@ -61,9 +62,9 @@ heard-kept count taken xs h = rw (le-leb count 512 h)
 put-between : (a : List ℕ) (x : ℕ) (b : List ℕ) → (a ++ (x ∷ [])) ++ b ≡ a ++ (x ∷ b)
 put-between a x b = append-assoc a (x ∷ []) b
 
-module _ (t : List ℕ) (m : Memory) (r : Record) (order : Order) (count taken p o : ℕ) (ps os : List ℕ) (few : taken < count) (long : 513 ≤ length ps) (owns-long : 513 ≤ length os) where
+module _ (t : List ℕ) (m : Memory) (r : Record) (order : Order) (points : List Point) (count taken p o : ℕ) (ps os : List ℕ) (few : taken < count) (long : 513 ≤ length ps) (owns-long : 513 ≤ length os) where
   abbrev call : List ℕ → List ℕ → Left (Said Opened)
-  call = orderCall order t m r
+  call = orderCall order points t m r
 
   abbrev front : List ℕ
   front = heard count taken ps
@@ -90,7 +91,7 @@ module _ (t : List ℕ) (m : Memory) (r : Record) (order : Order) (count taken p
         put-between front p qs,
         put-between ownFront o ws,
       ))
-      (λ (h : 513 ≤ count). order-many t m r order _ _ _ _ (omega (arith, length-append front (p ∷ qs), heard-long count taken ps (omega arith) long)) (omega (arith, length-append then qs, then-long)))
+      (λ (h : 513 ≤ count). order-many t m r order points _ _ _ _ (omega (arith, length-append front (p ∷ qs), heard-long count taken ps (omega arith) long)) (omega (arith, length-append then qs, then-long)))
       (lt-or-ge count 513)
 
   -- it was the last: 513 stand for more than 512
@@ -102,7 +103,7 @@ module _ (t : List ℕ) (m : Memory) (r : Record) (order : Order) (count taken p
       rw (c, take-kept ps long p (omega arith), take-kept os owns-long o (omega arith)))
       (λ (h : 513 ≤ count).
       let c : min count 513 ≡ 513 = omega arith in
-      rw c (order-many t m r order _ _ _ _ (omega (arith, length-append front (p ∷ []), heard-long count taken ps (omega arith) long))
+      rw c (order-many t m r order points _ _ _ _ (omega (arith, length-append front (p ∷ []), heard-long count taken ps (omega arith) long))
       (omega (arith, length-take-le 513 (keptAt taken p ps) (omega (arith, kept-long taken p ps))))))
       (lt-or-ge count 513)
     where

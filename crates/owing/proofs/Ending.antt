@@ -18,19 +18,23 @@ use Rattle.frames.specs.declared.Frame.the-variants as frame
 use Rattle.frames.specs.declared.Expected.the-variants.{AtHeader}
 use Rattle.texts.proofs.Readings.{read-out, read-turn}
 use Rattle.texts.proofs.Passing.{none-left, broken-taken}
+use Rattle.session.specs.Naming.{pointsAt}
 use Rattle.session.specs.Session.{commandsFrom, session, afterTable, ownMemory}
 use Rattle.owing.specs.Owed.{tableThen, owed, Sound, Begun}
 use Rattle.owing.specs.Laws.{listens, endText, EndPays, AllOwed}
 use Rattle.owing.specs.declared.Mode.{Mode}
-use Rattle.owing.specs.declared.Mode.the-variants.{Table, Command, Nodes as NodesOf, Working, Stopped}
+use Rattle.owing.specs.declared.Mode.the-variants.{Table, Command, Naming, Nodes as NodesOf, Working, Stopped}
 use Rattle.owing.proofs.Windows.{begun}
 
 module _ (t ps os : List ℕ) (m : Memory) (r : Record) (line : ℕ) where
   -- the text has ended: no byte is left
-  ended : (mode : Mode) → listens mode ≡ true → Sound mode t m r → owed mode t ps os m r line [] ≡ endText mode 0 line
-  unfolding owed endText commandsFrom nodesAt
+  ended : (mode : Mode) → listens mode ≡ true → Sound mode t os m r → owed mode t ps os m r line [] ≡ endText mode 0 line
+  unfolding owed endText commandsFrom pointsAt nodesAt
   ended (Table x) on sound = rw (read-out [] t x 0 line (sound .1))
   ended Command on sound = refl
+  ended (Naming count taken at) on sound =
+      let k : count - taken ≡ suc (count - (taken + 1)) = omega (arith, sound .1 .more) in
+      rw (k, none-left [] 0 line (omega arith))
   ended (NodesOf order count taken at) on sound =
       let k : count - taken ≡ suc (count - (taken + 1)) = omega (arith, sound .1) in
       rw (k, none-left [] 0 line (omega arith))
@@ -45,10 +49,13 @@ module _ (t ps os : List ℕ) (m : Memory) (r : Record) (line : ℕ) where
     some-begun : eqb (suc (length w)) 0 ≡ false
     some-begun = ne-eqb (suc (length w)) 0 (λ e. omega arith)
 
-    broken-off : (mode : Mode) → listens mode ≡ true → Sound mode t m r → owed mode t ps os m r line (b ∷ w) ≡ endText mode (suc (length w)) line
-    unfolding owed endText commandsFrom nodesAt
+    broken-off : (mode : Mode) → listens mode ≡ true → Sound mode t os m r → owed mode t ps os m r line (b ∷ w) ≡ endText mode (suc (length w)) line
+    unfolding owed endText commandsFrom pointsAt nodesAt
     broken-off (Table x) on sound = rw (read-turn (b ∷ w) t x 0 line (sound .1) (length w), broken, broken-taken t x line, some-begun)
     broken-off Command on sound = rw (broken, some-begun)
+    broken-off (Naming count taken at) on sound =
+        let k : count - taken ≡ suc (count - (taken + 1)) = omega (arith, sound .1 .more) in
+        rw (k, broken, some-begun)
     broken-off (NodesOf order count taken at) on sound =
         let k : count - taken ≡ suc (count - (taken + 1)) = omega (arith, sound .1) in
         rw (k, broken, some-begun)

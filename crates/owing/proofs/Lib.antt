@@ -3,5 +3,6 @@ pub mod Shifts
 pub mod Many
 pub mod Opened
 pub mod Coming
+pub mod Naming
 pub mod Owing
 pub mod Ending

@@ -1,35 +1,36 @@
 -- What a command leaves: an update that is at work on a sound tree, or all as it was. Assumes nothing.
-use mathlib.Core.Path.{_≡_, refl, ap, sym, _∙_}
-use mathlib.Core.Bool.{true, false, true≢false}
-use mathlib.Core.List.{List, map}
-use Prim.Native.Nat.{ℕ, zero, suc, _+_, _-_, _*_, _≤_, _<_}
+use mathlib.Core.Path.{_≡_, refl, sym, subst, _∙_}
+use mathlib.Core.Bool.{false, true≢false}
+use mathlib.Core.List.{List, [], _∷_, map}
+use Prim.Native.Nat.{ℕ, zero, suc, _*_, _≤_}
 use native.Mathlib.Omega.{arith}
-use lib.ListN.{length, getD, length-replicate}
-use lib.Seq.{length-take-le}
-use Rattle.table.specs.Words.{leftOf}
+use lib.ListN.{length, length-replicate}
 use Rattle.table.specs.Judge.{judgeTable}
+use Rattle.tree.specs.declared.Point.{Point}
 use Rattle.tree.specs.Tree.{judgeTree}
-use Rattle.tree.specs.Replace.{exchanged, part}
-use Rattle.tree.proofs.Replace.{replacement}
+use Rattle.tree.specs.Points.{Part, nodesRow, ownsRow, pointsRow}
+use Rattle.tree.specs.Handed.{placesFrom, handedRow}
+use Rattle.tree.proofs.Points.{all-rows}
 use Rattle.circles.specs.Ranked.{upFrom}
-use Rattle.memory.proofs.Placed.{length-exchanged, length-filled, take-filled}
 use Rattle.circles.proofs.Lists.{map-long}
 use Rattle.update.specs.declared.Record.{Record}
 use Rattle.update.specs.declared.Open.the-variants as open-by
 use Rattle.update.specs.Records.{opened, shut, emptyRecord}
-use Rattle.update.specs.Memories.{Memory, nodesOf, ownsOf, loaded, arranged, replaced}
-use Rattle.update.specs.Refusals.{loadRefusal, replaceRefusal}
-use Rattle.update.specs.Calls.{Said, said, Left, Opened, is-open, unless, loadCall, replaceCall}
+use Rattle.update.specs.Memories.{Memory, nodesOf, ownsOf, loaded, arrangedRow, replacedRow}
+use Rattle.update.specs.Refusals.{loadRefusal, nodesLeft, pointsRefusal}
+use Rattle.update.specs.Calls.{Said, said, Left, Opened, is-open, unless, loadPoint, loadCall, replaceCall, pointsCall}
 use Rattle.update.specs.Within.{Roomy}
+use Rattle.update.proofs.Filled.{length-filled, take-filled}
 use Rattle.update.proofs.Within.{short-means, beyond-means, all-shut}
 use Rattle.update.proofs.Refusing.{all-exactly}
+use Rattle.update.proofs.Several.{one-point, accepted}
 use Rattle.update.proofs.Leaving.{all-open-within}
 use Rattle.judging.specs.Order.{Holding, Going}
-use Rattle.judging.proofs.Orders.{tree-judged, tree-equal, tree-sound}
+use Rattle.judging.proofs.Orders.{tree-judged, tree-equal}
 use Rattle.owing.specs.Owed.{orderCall, Sound}
 use Rattle.owing.specs.Hearing.{Heard, openedBy}
 use Rattle.owing.specs.declared.Order.{Order}
-use Rattle.owing.specs.declared.Order.the-variants.{Load, Replace}
+use Rattle.owing.specs.declared.Order.the-variants.{Load, Replace, Several}
 
 -- ---- before the first command
 
@@ -76,7 +77,7 @@ module _ (t : List ℕ) (m : Memory) (r : Record) where
         before = length-replicate {A = ℕ} (length (m .before)) 0;
       }
 
-  load-going : (ns owns : List ℕ) → loadRefusal t m r ns owns ≡ 0 → Going t (loaded m ns owns) (opened open-by.Load (length ns) 0 (length ns))
+  load-going : (ns owns : List ℕ) → loadRefusal t m r ns owns ≡ 0 → Going t (loaded m ns owns) (opened open-by.Load (length ns) (loadPoint (length ns) ∷ []))
   unfolding loaded opened loadCall
   load-going ns owns h =
       let c = all-exactly t m r .load ns owns .by0 .0 h in
@@ -87,7 +88,7 @@ module _ (t : List ℕ) (m : Memory) (r : Record) where
         ground = record {
           table = c .1 .0;
           room = still-roomy (load-lengths ns owns h) room;
-          within = beyond-means (opened open-by.Load (length ns) 0 (length ns)) .0 (rw h at (all-open-within t m r .load ns owns h));
+          within = beyond-means (opened open-by.Load (length ns) (loadPoint (length ns) ∷ [])) .0 (rw h at (all-open-within t m r .load ns owns h));
         };
         held = refl;
         tree = rw (take-filled ns (m .productions) (length ns) refl, take-filled owns (m .owns) (length ns) e) j;
@@ -96,55 +97,38 @@ module _ (t : List ℕ) (m : Memory) (r : Record) where
 
   -- ---- a replacement that is accepted
 
-  module _ (point : ℕ) (new newOwns : List ℕ) (h : replaceRefusal t m r point new newOwns ≡ 0) where
+  module _ (ps : List Part) (h : pointsRefusal t m r ps ≡ 0) where
     abbrev ns : List ℕ
     ns = nodesOf m (r .nodes)
 
-    abbrev k : ℕ
-    k = part t ns point
-
     -- the tree then
     abbrev then : List ℕ
-    then = exchanged ns point k new
+    then = nodesRow t ns ps
 
     abbrev thenOwns : List ℕ
-    thenOwns = exchanged (ownsOf m (r .nodes)) point k newOwns
-
-    abbrev count : ℕ
-    count = r .nodes - k + length new
+    thenOwns = ownsRow t ns (ownsOf m (r .nodes)) ps
 
     record Exchanged : Type 0 where
-      pub long : length then ≡ count
-      pub owns-long : length thenOwns ≡ count
+      pub long : length then ≡ nodesLeft t m r ps
+      pub owns-long : length thenOwns ≡ nodesLeft t m r ps
       pub sound : judgeTree t then thenOwns 0 ≡ 0
-      pub few : count ≤ 512
+      pub few : nodesLeft t m r ps ≤ 512
 
     exchanged-sound : Exchanged
+    unfolding nodesLeft
     exchanged-sound =
-        let c = all-exactly t m r .replace point new newOwns .by0 .0 h in
-        let room = short-means m .0 (c .0) in
-        let within = beyond-means r .0 (c .1 .1 .0) in
-        let held : judgeTree t ns (ownsOf m (r .nodes)) 0 ≡ 0 = c .1 .1 .1 .1 .1 .0 in
-        let below : point < r .nodes = c .1 .1 .1 .1 .1 .1 .0 in
-        let few : count ≤ 512 = c .1 .1 .1 .1 .1 .1 .1 .0 in
-        let part-sound : judgeTree t new newOwns (leftOf t (getD ns point 0)) ≡ 0 = c .1 .1 .1 .1 .1 .1 .1 .1 .0 in
-        let n : length ns ≡ r .nodes = length-take-le (r .nodes) (m .productions) (omega (arith, room .productions, within .nodes)) in
-        let o : length (ownsOf m (r .nodes)) ≡ r .nodes = length-take-le (r .nodes) (m .owns) (omega (arith, room .owns, within .nodes)) in
-        let e : length newOwns ≡ length new = tree-equal t new newOwns _ part-sound in
-        let law = replacement t ns new 0 point (tree-sound t ns (ownsOf m (r .nodes)) 0 held) (omega arith) (tree-sound t new newOwns _ part-sound) in
-        let fits : point + k ≤ length ns = law .fits in
-        let a : length then ≡ count = length-exchanged ns point k new fits ∙ ap (λ (x : ℕ). x - k + length new) n in
-        let b : length thenOwns ≡ count =
-        length-exchanged (ownsOf m (r .nodes)) point k newOwns (omega arith) ∙ ap (λ (x : ℕ). x - k + length newOwns) o ∙ ap (λ (x : ℕ). r .nodes - k + x) e in
-        record { long = a; owns-long = b; sound = sym (tree-judged t then thenOwns 0 (a ∙ sym b)) ∙ law .sound; few = few }
+        let a = accepted t m r ps h in
+        let law = all-rows t ns 0 0 ps (a .tree) (a .row) in
+        let e : length thenOwns ≡ length then = law .owned (ownsOf m (r .nodes)) (a .owned) in
+        record { long = sym (a .count); owns-long = e ∙ sym (a .count); sound = sym (tree-judged t then thenOwns 0 (sym e)) ∙ law .sound; few = a .nodes }
 
-    replace-lengths : SameLengths m (replaced t m (r .nodes) point new newOwns)
-    unfolding replaced
-    replace-lengths =
-        let c = all-exactly t m r .replace point new newOwns .by0 .0 h in
+    points-lengths : SameLengths m (replacedRow t m (r .nodes) ps)
+    unfolding replacedRow
+    points-lengths =
+        let c = all-exactly t m r .points ps .by0 .0 h in
         let room = short-means m .0 (c .0) in
         let x = exchanged-sound in
-        let values : ℕ → ℕ = arranged t then point k (length new) (m .sets) in
+        let values : ℕ → ℕ = arrangedRow t ns ps (m .sets) in
         let long : length (map values (upFrom 0 (8 * length then))) ≡ 8 * length then = map-long values 0 (8 * length then) in
         record {
           productions = length-filled then (m .productions) (omega (arith, room .productions, x .long, x .few));
@@ -153,70 +137,83 @@ module _ (t : List ℕ) (m : Memory) (r : Record) where
           before = length-filled (map values (upFrom 0 (8 * length then))) (m .before) (omega (arith, room .before, x .long, x .few));
         }
 
-    replace-going : Going t (replaced t m (r .nodes) point new newOwns) (opened open-by.Replacement count point (length new))
-    unfolding replaced opened replaceCall
-    replace-going =
-        let c = all-exactly t m r .replace point new newOwns .by0 .0 h in
+    points-going : Going t (replacedRow t m (r .nodes) ps) (opened open-by.Replacement (nodesLeft t m r ps) (pointsRow t ns ps))
+    unfolding replacedRow opened pointsCall
+    points-going =
+        let c = all-exactly t m r .points ps .by0 .0 h in
         let room = short-means m .0 (c .0) in
         let x = exchanged-sound in
         record {
           ground = record {
             table = c .1 .0;
-            room = still-roomy replace-lengths room;
-            within = beyond-means (opened open-by.Replacement count point (length new)) .0 (rw h at (all-open-within t m r .replace point new newOwns h));
+            room = still-roomy points-lengths room;
+            within = beyond-means (opened open-by.Replacement (nodesLeft t m r ps) (pointsRow t ns ps)) .0 (rw h at (all-open-within t m r .points ps h));
           };
           held = refl;
-          tree = rw (take-filled then (m .productions) count (x .long), take-filled thenOwns (m .owns) count (x .owns-long)) (x .sound);
+          tree = rw (take-filled then (m .productions) (nodesLeft t m r ps) (x .long), take-filled thenOwns (m .owns) (nodesLeft t m r ps) (x .owns-long)) (x .sound);
           busy = refl;
         }
 
-  -- ---- either, by its number
+  -- ---- each, by its number
+
+  -- what is left where nothing is refused
+  abbrev loadLeft : List ℕ → List ℕ → Left (Said Opened)
+  loadLeft ns owns = record { answer = said is-open; next = opened open-by.Load (length ns) (loadPoint (length ns) ∷ []); memory = loaded m ns owns }
+
+  abbrev pointsLeft : List Part → Left (Said Opened)
+  pointsLeft ps = record { answer = said is-open; next = opened open-by.Replacement (nodesLeft t m r ps) (pointsRow t (nodesOf m (r .nodes)) ps); memory = replacedRow t m (r .nodes) ps }
+
+  -- a replacement at one point is one at several
+  single : (P : Left (Said Opened) → Type 0) (point : ℕ) (new newOwns : List ℕ) → ((ps : List Part) → P (pointsCall t m r ps)) → P (replaceCall t m r point new newOwns)
+  single P point new newOwns f = let p : Part = record { point = point; nodes = new; owns = newOwns } in subst P (one-point t m r p) (f (p ∷ []))
 
   module _ (holds : Holding t m r) (ps os : List ℕ) (command : ℕ) where
     abbrev Keeps : Left (Said Opened) → Type 0
-    Keeps left = let h : Heard = openedBy t ps os m r command left in Sound (h .mode) (h .words) (h .memory) (h .next)
+    Keeps left = let h : Heard = openedBy t ps os m r command left in Sound (h .mode) (h .words) (h .partOwns) (h .memory) (h .next)
 
     load-keeps : (ns owns : List ℕ) → Keeps (loadCall t m r ns owns)
     unfolding loadCall
     load-keeps ns owns = by-number (loadRefusal t m r ns owns) refl
       where
-        by-number : (n : ℕ) → loadRefusal t m r ns owns ≡ n
-            → Keeps (unless n r m (record { answer = said is-open; next = opened open-by.Load (length ns) 0 (length ns); memory = loaded m ns owns }))
+        by-number : (n : ℕ) → loadRefusal t m r ns owns ≡ n → Keeps (unless n r m (loadLeft ns owns))
         by-number zero h = load-going ns owns h
         by-number (suc n) h = holds
 
-    replace-keeps : (point : ℕ) (new newOwns : List ℕ) → Keeps (replaceCall t m r point new newOwns)
-    unfolding replaceCall
-    replace-keeps point new newOwns = by-number (replaceRefusal t m r point new newOwns) refl
+    points-keep : (parts : List Part) → Keeps (pointsCall t m r parts)
+    unfolding pointsCall
+    points-keep parts = by-number (pointsRefusal t m r parts) refl
       where
-        by-number : (n : ℕ) → replaceRefusal t m r point new newOwns ≡ n → Keeps (unless n r m (record {
-          answer = said is-open;
-          next = opened open-by.Replacement (r .nodes - part t (nodesOf m (r .nodes)) point + length new) point (length new);
-          memory = replaced t m (r .nodes) point new newOwns;
-        }))
-        by-number zero h = replace-going point new newOwns h
+        by-number : (n : ℕ) → pointsRefusal t m r parts ≡ n → Keeps (unless n r m (pointsLeft parts))
+        by-number zero h = points-going parts h
         by-number (suc n) h = holds
 
-    pub order-keeps : (order : Order) (ns owns : List ℕ) → Keeps (orderCall order t m r ns owns)
-    order-keeps Load ns owns = load-keeps ns owns
-    order-keeps (Replace point) ns owns = replace-keeps point ns owns
+    pub order-keeps : (order : Order) (qs : List Point) (ns owns : List ℕ) → Keeps (orderCall order qs t m r ns owns)
+    order-keeps Load qs ns owns = load-keeps ns owns
+    order-keeps (Replace point) qs ns owns = single Keeps point ns owns points-keep
+    order-keeps (Several n) qs ns owns = points-keep (handedRow (placesFrom 0 n qs) ns owns)
 
   -- ---- whatever is answered
 
-  pub order-lengths : (order : Order) (ns owns : List ℕ) → SameLengths m (orderCall order t m r ns owns .memory)
-  unfolding loadCall replaceCall
-  order-lengths Load ns owns = by-number (loadRefusal t m r ns owns) refl
+  abbrev Lengths : Left (Said Opened) → Type 0
+  Lengths left = SameLengths m (left .memory)
+
+  points-long : (parts : List Part) → Lengths (pointsCall t m r parts)
+  unfolding pointsCall
+  points-long parts = by-number (pointsRefusal t m r parts) refl
     where
-      by-number : (n : ℕ) → loadRefusal t m r ns owns ≡ n
-          → SameLengths m (unless n r m (record { answer = said is-open; next = opened open-by.Load (length ns) 0 (length ns); memory = loaded m ns owns }) .memory)
+      by-number : (n : ℕ) → pointsRefusal t m r parts ≡ n → Lengths (unless n r m (pointsLeft parts))
+      by-number zero h = points-lengths parts h
+      by-number (suc n) h = lengths-self m
+
+  load-long : (ns owns : List ℕ) → Lengths (loadCall t m r ns owns)
+  unfolding loadCall
+  load-long ns owns = by-number (loadRefusal t m r ns owns) refl
+    where
+      by-number : (n : ℕ) → loadRefusal t m r ns owns ≡ n → Lengths (unless n r m (loadLeft ns owns))
       by-number zero h = load-lengths ns owns h
       by-number (suc n) h = lengths-self m
-  order-lengths (Replace point) ns owns = by-number (replaceRefusal t m r point ns owns) refl
-    where
-      by-number : (n : ℕ) → replaceRefusal t m r point ns owns ≡ n → SameLengths m (unless n r m (record {
-        answer = said is-open;
-        next = opened open-by.Replacement (r .nodes - part t (nodesOf m (r .nodes)) point + length ns) point (length ns);
-        memory = replaced t m (r .nodes) point ns owns;
-      }) .memory)
-      by-number zero h = replace-lengths point ns owns h
-      by-number (suc n) h = lengths-self m
+
+  pub order-lengths : (order : Order) (qs : List Point) (ns owns : List ℕ) → SameLengths m (orderCall order qs t m r ns owns .memory)
+  order-lengths Load qs ns owns = load-long ns owns
+  order-lengths (Replace point) qs ns owns = single Lengths point ns owns points-long
+  order-lengths (Several n) qs ns owns = points-long (handedRow (placesFrom 0 n qs) ns owns)

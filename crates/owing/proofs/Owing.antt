@@ -1,13 +1,15 @@
 -- What a line does to what is owed: by what is waited for, and by the line's frame. Assumes nothing.
 use mathlib.Core.Path.{_≡_, refl, ap, sym, _∙_}
 use mathlib.Core.Bool.{Bool, true, false, cond, true≢false}
-use mathlib.Core.List.{List, [], _++_, append-nil}
-use Prim.Native.Nat.{ℕ, zero, suc, _+_, _-_, _≤_, _<_, min}
+use mathlib.Core.List.{List, [], _∷_, _++_, append-nil}
+use Prim.Native.Nat.{ℕ, zero, suc, _+_, _-_, _^_, _≤_, _<_, min}
 use native.Mathlib.Omega.{arith}
 use borrow.Author.Tests.{ltb-true, ltb-false}
 use lib.Dec.{ltb}
 use lib.ListN.{length, take, length-append}
 use Rattle.refusal.specs.Numbers.{numberOf}
+use Rattle.tree.specs.declared.Point.{Point}
+use Rattle.tree.specs.Handed.{placesFrom, announced}
 use Rattle.update.specs.declared.Record.{Record}
 use Rattle.update.specs.Records.{emptyRecord}
 use Rattle.update.specs.Memories.{Memory}
@@ -26,29 +28,32 @@ use Rattle.texts.proofs.Readings.{read-turn, read-ends}
 use Rattle.texts.proofs.Passing.{taken-type}
 use Rattle.planting.proofs.Trees.{nodes-forth}
 use Rattle.frames.specs.Out.{refusalText}
+use Rattle.frames.proofs.Bounds.{Bounded, bounded}
 use Rattle.frames.specs.declared.Frame.{Frame}
 use Rattle.frames.specs.declared.Frame.the-variants as frame
 use Rattle.frames.specs.declared.Expected.{Expected}
 use Rattle.frames.specs.declared.Expected.the-variants.{AtHeader, AtSymbol, AtProduction, AtEquation, Ended}
-use Rattle.session.specs.Session.{Told, andOn, withNodes, openedThen, dumpTold, command, commandsFrom}
-use Rattle.owing.specs.Owed.{commands, onward, orderCall, heard, behind, tableThen, owed, Sound}
-use Rattle.owing.specs.Hearing.{Heard, stopped, waiting, openedBy, called, ordered, commanded, modeOf, tabled, keptAt, noded, hearing}
+use Rattle.session.specs.Naming.{Named, pointBefore, pointThen, pointsAt}
+use Rattle.session.specs.Session.{Told, andOn, withNodes, withPoints, partsThen, openedThen, dumpTold, command, commandsFrom}
+use Rattle.owing.specs.Owed.{commands, onward, pointsIn, namedIn, behindPoints, orderCall, heard, behind, tableThen, owed, NamedSoFar, Sound}
+use Rattle.owing.specs.Hearing.{Heard, stopped, waiting, openedBy, called, ordered, naming, commanded, modeOf, tabled, keptAt, pointKept, pointed, noded, hearing}
 use Rattle.owing.specs.Laws.{Pays, LinePays}
 use Rattle.owing.specs.declared.Order.{Order}
-use Rattle.owing.specs.declared.Order.the-variants.{Load, Replace}
+use Rattle.owing.specs.declared.Order.the-variants.{Load, Replace, Several}
 use Rattle.owing.specs.declared.Mode.{Mode}
-use Rattle.owing.specs.declared.Mode.the-variants.{Table, Command, Nodes as NodesOf, Working, Stopped}
+use Rattle.owing.specs.declared.Mode.the-variants.{Table, Command, Naming, Nodes as NodesOf, Working, Stopped}
 use Rattle.owing.proofs.Windows.{Front, front}
-use Rattle.owing.proofs.Shifts.{command-moved, with-moved, onward-shift, nodes-shift, table-shift, read-shift}
+use Rattle.owing.proofs.Shifts.{command-moved, parts-moved, with-moved, points-moved, onward-shift, nodes-shift, points-shift, table-shift, read-shift}
 use Rattle.owing.proofs.Opened.{empty-holds, order-keeps}
 use Rattle.owing.proofs.Coming.{heard-none, order-next, order-last, with-node, behind-none, behind-moved}
+use Rattle.owing.proofs.Naming.{nodes-apart, Like, like-more, parts-like, kept-like, kept-few, with-point, named-none, named-moved, point-between}
 
 -- what a line prints, and what is owed behind it
 abbrev owes : Heard → ℕ → List ℕ → List ℕ
 owes h line u = h .text ++ owed (h .mode) (h .words) (h .parts) (h .partOwns) (h .memory) (h .next) line u
 
 abbrev SoundBy : Heard → Type 0
-SoundBy h = Sound (h .mode) (h .words) (h .memory) (h .next)
+SoundBy h = Sound (h .mode) (h .words) (h .partOwns) (h .memory) (h .next)
 
 nothing-owed : (t ps os : List ℕ) (m : Memory) (r : Record) (line : ℕ) (u : List ℕ) → owed Stopped t ps os m r line u ≡ []
 unfolding owed
@@ -64,6 +69,44 @@ opened-owed t ps os m r at line u left = by-answer (left .answer) refl
     by-answer : (a : Said Opened) → left .answer ≡ a → andOn (openedThen at t left) 0 line (onward u t) ≡ owes (openedBy t ps os m r at left) line u
     by-answer (refused n) e = rw e
     by-answer (said is-open) e = rw e
+
+-- ---- a command at its line `at`, whose points and number of nodes are known: the text goes on with line `next`
+
+module _ (t ps os : List ℕ) (m : Memory) (r : Record) (at next : ℕ) where
+  module _ (order : Order) where
+    abbrev call : List ℕ → List ℕ → Told
+    call qs ws = openedThen at t (orderCall order (pointsIn os) t m r qs ws)
+
+    waits : (n : ℕ) (u : List ℕ) → withNodes (nodesAt (suc n) u 0 next) call (onward u t) ≡ owed (NodesOf order (suc n) 0 at) t ps os m r next u
+    unfolding owed
+    waits n u = let z : suc n - 0 ≡ suc n = omega arith in rw (heard-none (suc n) ps, heard-none (suc n) os, z) (ap (λ (x : Nodes). withNodes x call (onward u t)) (sym (behind-none (nodesAt (suc n) u 0 next))))
+
+    none-waits : (u : List ℕ) → withNodes (nodesAt 0 u 0 next) call (onward u t) ≡ owes (called t ps os m r order 0 at) next u
+    unfolding called nodesAt
+    none-waits u = opened-owed t ps os m r at next u (orderCall order (pointsIn os) t m r [] [])
+
+    ordered-owed : (count : ℕ) (u : List ℕ) → withNodes (nodesAt count u 0 next) call (onward u t) ≡ owes (ordered t ps os m r order count at) next u
+    ordered-owed zero u = none-waits u
+    ordered-owed (suc n) u = waits n u
+
+    ordered-sound : Holding t m r → (count : ℕ) → SoundBy (ordered t ps os m r order count at)
+    unfolding called
+    ordered-sound h zero = order-keeps t m r h ps os at order (pointsIn os) [] []
+    ordered-sound h (suc n) = (h, omega arith)
+
+  -- one that names its points first
+  abbrev partsOf : List ℕ → List Point → ℕ → ℕ → List ℕ
+  partsOf u = partsThen u t at r m (onward u t)
+
+  naming-owed : (count : ℕ) (u : List ℕ) → withPoints (pointsAt count u 0 next) (partsOf u) ≡ owes (naming t ps os m r count at) next u
+  unfolding owed pointsAt placesFrom announced
+  naming-owed zero u = ordered-owed (Several 0) 0 u
+  naming-owed (suc n) u = let z : suc n - 0 ≡ suc n = omega arith in rw z (ap (λ (x : Named). withPoints x (partsOf u)) (sym (named-none (pointsAt (suc n) u 0 next))))
+
+  naming-sound : Holding t m r → (count : ℕ) → count < 2 ^ 8 → SoundBy (naming t ps os m r count at)
+  unfolding called placesFrom announced
+  naming-sound h zero l = ordered-sound (Several 0) h 0
+  naming-sound h (suc n) l = (h, record { more = omega arith; few = omega arith; nodes = omega arith })
 
 -- ---- what is known where a line w stands in front: t the words, ps and os the nodes that have come
 module _ (t ps os : List ℕ) (m : Memory) (r : Record) (line : ℕ) (w : List ℕ) (some : 0 < length w) where
@@ -95,50 +138,33 @@ module _ (t ps os : List ℕ) (m : Memory) (r : Record) (line : ℕ) (w : List �
         command-first u ∙ rw (x .place y u, x .next y u)
         (command-moved w u t (commandsFrom (left u) (w ++ u) t) (onward u t) f line 0 (lineAfter line) r m (λ _ q line′ r′ m′ i. onward-shift w u t (left u) q line′ r′ m′ (enough u)))
 
-  -- a command's first line
-  module _ (order : Order) where
-    abbrev call : List ℕ → List ℕ → Told
-    call qs ws = openedThen line t (orderCall order t m r qs ws)
-
-    waits : (n : ℕ) (u : List ℕ) → withNodes (nodesAt (suc n) u 0 (lineAfter line)) call (onward u t) ≡ owed (NodesOf order (suc n) 0 line) t ps os m r (lineAfter line) u
-    unfolding owed
-    waits n u = let z : suc n - 0 ≡ suc n = omega arith in rw (heard-none (suc n) ps, heard-none (suc n) os, z) (ap (λ (x : Nodes). withNodes x call (onward u t)) (sym (behind-none (nodesAt (suc n) u 0 (lineAfter line)))))
-
-    none-waits : (u : List ℕ) → withNodes (nodesAt 0 u 0 (lineAfter line)) call (onward u t) ≡ owes (called t ps os m r order 0 line) (lineAfter line) u
-    unfolding called nodesAt
-    none-waits u = opened-owed t ps os m r line (lineAfter line) u (orderCall order t m r [] [])
-
-    ordered-owed : (count : ℕ) (u : List ℕ) → withNodes (nodesAt count u 0 (lineAfter line)) call (onward u t) ≡ owes (ordered t ps os m r order count line) (lineAfter line) u
-    ordered-owed zero u = none-waits u
-    ordered-owed (suc n) u = waits n u
-
-    ordered-sound : Holding t m r → (count : ℕ) → SoundBy (ordered t ps os m r order count line)
-    unfolding called
-    ordered-sound h zero = order-keeps t m r h ps os line order [] []
-    ordered-sound h (suc n) = (h, omega arith)
-
   dumped : (u : List ℕ) → andOn (dumpTold line t r m) 0 (lineAfter line) (onward u t) ≡ dumpTold line t r m .text ++ commands u t (lineAfter line) r m
   unfolding dumpTold
   dumped u = refl
 
-  commanded-pays : Holding t m r → (f : Frame) → Front w line f → Pays Command t ps os m r line w (commanded t ps os m r f line)
+  commanded-pays : Holding t m r → (f : Frame) → Bounded f → Front w line f → Pays Command t ps os m r line w (commanded t ps os m r f line)
   unfolding commanded owed
-  commanded-pays h (frame.Header a b) x = ends Command 14 line (command-line (frame.Header a b) x (omega arith))
-  commanded-pays h (frame.Symbol a b) x = ends Command 14 line (command-line (frame.Symbol a b) x (omega arith))
-  commanded-pays h (frame.Production a b c) x = ends Command 14 line (command-line (frame.Production a b c) x (omega arith))
-  commanded-pays h (frame.Equation a b c d) x = ends Command 14 line (command-line (frame.Equation a b c d) x (omega arith))
-  commanded-pays h (frame.Node a b) x = ends Command 14 line (command-line (frame.Node a b) x (omega arith))
-  commanded-pays h (frame.Load count) x = record {
-    owing = λ u. command-line (frame.Load count) x (omega arith) u ∙ ordered-owed Load count u;
-    sound = ordered-sound Load h count;
+  commanded-pays h (frame.Header a b) few x = ends Command 14 line (command-line (frame.Header a b) x (omega arith))
+  commanded-pays h (frame.Symbol a b) few x = ends Command 14 line (command-line (frame.Symbol a b) x (omega arith))
+  commanded-pays h (frame.Production a b c) few x = ends Command 14 line (command-line (frame.Production a b c) x (omega arith))
+  commanded-pays h (frame.Equation a b c d) few x = ends Command 14 line (command-line (frame.Equation a b c d) x (omega arith))
+  commanded-pays h (frame.Node a b) few x = ends Command 14 line (command-line (frame.Node a b) x (omega arith))
+  commanded-pays h (frame.Load count) few x = record {
+    owing = λ u. command-line (frame.Load count) x (omega arith) u ∙ ordered-owed t ps os m r line (lineAfter line) Load count u;
+    sound = ordered-sound t ps os m r line (lineAfter line) Load h count;
   }
-  commanded-pays h (frame.Replace point count) x = record {
-    owing = λ u. command-line (frame.Replace point count) x (omega arith) u ∙ ordered-owed (Replace point) count u;
-    sound = ordered-sound (Replace point) h count;
+  commanded-pays h (frame.Replace point count) few x = record {
+    owing = λ u. command-line (frame.Replace point count) x (omega arith) u ∙ ordered-owed t ps os m r line (lineAfter line) (Replace point) count u;
+    sound = ordered-sound t ps os m r line (lineAfter line) (Replace point) h count;
   }
-  commanded-pays h frame.Dump x = record { owing = λ u. command-line frame.Dump x (omega arith) u ∙ dumped u; sound = h }
-  commanded-pays h (frame.Refused refusal own) x = ends Command (numberOf refusal) own (command-first (frame.Refused refusal own) x)
-  commanded-pays h frame.Over x = absurd (x .some refl)
+  commanded-pays h (frame.Corrections count) few x = record {
+    owing = λ u. command-line (frame.Corrections count) x (omega arith) u ∙ naming-owed t ps os m r line (lineAfter line) count u;
+    sound = naming-sound t ps os m r line (lineAfter line) h count few;
+  }
+  commanded-pays h (frame.Correction a b) few x = ends Command 14 line (command-line (frame.Correction a b) x (omega arith))
+  commanded-pays h frame.Dump few x = record { owing = λ u. command-line frame.Dump x (omega arith) u ∙ dumped u; sound = h }
+  commanded-pays h (frame.Refused refusal own) few x = ends Command (numberOf refusal) own (command-first (frame.Refused refusal own) x)
+  commanded-pays h frame.Over few x = absurd (x .some refl)
 
   -- ---- a frame of the table is waited for
 
@@ -162,7 +188,7 @@ module _ (t ps os : List ℕ) (m : Memory) (r : Record) (line : ℕ) (w : List �
     next-owed v (AtEquation p q k) u = refl
     next-owed v Ended u = rw (read-ends (length u) u v Ended 0 (lineAfter line) refl)
 
-    next-sound : (v : List ℕ) (y : Expected) → Sofar v y → Roomy m → Sound (modeOf y) v m emptyRecord
+    next-sound : (v : List ℕ) (y : Expected) → Sofar v y → Roomy m → Sound (modeOf y) v os m emptyRecord
     next-sound v AtHeader s room = (s, refl)
     next-sound v (AtSymbol i) s room = (s, refl)
     next-sound v (AtProduction p) s room = (s, refl)
@@ -182,6 +208,98 @@ module _ (t ps os : List ℕ) (m : Memory) (r : Record) (line : ℕ) (w : List �
           sound = tt;
         }
 
+  -- ---- a point of a command is waited for
+
+  module _ (count taken at : ℕ) (far : NamedSoFar count taken os) (owns-long : 521 ≤ length os) where
+    abbrev naming-mode : Mode
+    naming-mode = Naming count taken at
+
+    abbrev parts : List ℕ → List Point → ℕ → ℕ → List ℕ
+    parts u = partsThen u t at r m (onward u t)
+
+    abbrev came : List Point
+    came = namedIn taken os
+
+    -- the points that are to come behind the line
+    abbrev left-over : ℕ
+    left-over = count - (taken + 1)
+
+    points-first : (f : Frame) → Front w line f → (u : List ℕ) → owed naming-mode t ps os m r line (w ++ u)
+        ≡ withPoints (behindPoints came (pointThen f line (pointsAt left-over (w ++ u) (frameAt (w ++ u) 0 line .place) (frameAt (w ++ u) 0 line .line)))) (parts (w ++ u))
+    unfolding owed pointsAt
+    points-first f z u = let k : count - taken ≡ suc left-over = omega (arith, far .more) in rw (k, z .frame u)
+
+    module _ (point n : ℕ) (few : Bounded (frame.Correction point n)) (z : Front w line (frame.Correction point n)) where
+      abbrev q : Point
+      q = record { node = point; count = n }
+
+      abbrev behind-line : List ℕ → Named
+      behind-line u = pointsAt left-over u 0 (lineAfter line)
+
+      point-line : (u : List ℕ) → owed naming-mode t ps os m r line (w ++ u) ≡ withPoints (behindPoints came (pointBefore q (behind-line u))) (parts u)
+      point-line u =
+          points-first (frame.Correction point n) z u
+          ∙ rw (z .place (omega arith) u, z .next (omega arith) u, points-shift left-over w u 0 (lineAfter line), named-moved came q (length w) (behind-line u))
+          (points-moved (length w) (behindPoints came (pointBefore q (behind-line u))) (parts (w ++ u)) (parts u) (λ qs place next e.
+          parts-moved w u t (onward (w ++ u) t) (onward u t) at r m qs place next (λ k line′ r′ m′ i.
+          onward-shift w u t (length (w ++ u)) k line′ r′ m′ (omega (arith, length-append w u)))))
+
+      abbrev os-then : List ℕ
+      os-then = pointKept taken point n os
+
+      like : Like (came ++ (q ∷ [])) (namedIn (taken + 1) os-then)
+      like = kept-like taken point n os owns-long (few .0) (few .1) (far .nodes) (omega (arith, far .more, far .few))
+
+      -- the point stands in front of those that are to come, or behind those that have come
+      parts-next : (u : List ℕ) (qs : List Point) (place next : ℕ) → parts u (came ++ (q ∷ qs)) place next ≡ parts u (namedIn (taken + 1) os-then ++ qs) place next
+      parts-next u qs place next =
+          ap (λ (l : List Point). parts u l place next) (sym (point-between came q qs))
+          ∙ parts-like u t at r m (onward u t) ((came ++ (q ∷ [])) ++ qs) (namedIn (taken + 1) os-then ++ qs) place next (like-more (came ++ (q ∷ [])) (namedIn (taken + 1) os-then) qs like)
+
+      more-named : (u : List ℕ) → owed naming-mode t ps os m r line (w ++ u) ≡ owed (Naming count (taken + 1) at) t ps os-then m r (lineAfter line) u
+      unfolding owed
+      more-named u = point-line u ∙ with-point (parts u) came (namedIn (taken + 1) os-then) q (behind-line u) (parts-next u)
+
+      -- it was the last: the nodes of all parts come next
+      last-named : taken + 1 ≡ count → (u : List ℕ) → owed naming-mode t ps os m r line (w ++ u)
+          ≡ owes (ordered t ps os-then m r (Several count) (announced (namedIn count os-then)) at) (lineAfter line) u
+      unfolding pointsAt
+      last-named h u =
+          let k : left-over ≡ 0 = omega arith in
+          point-line u
+          ∙ rw k (parts-like u t at r m (onward u t) (came ++ (q ∷ [])) (namedIn (taken + 1) os-then) 0 (lineAfter line) like)
+          ∙ ap (λ (l : List Point). parts u l 0 (lineAfter line)) (ap (λ (c : ℕ). namedIn c os-then) h)
+          ∙ ordered-owed t ps os-then m r at (lineAfter line) (Several count) (announced (namedIn count os-then)) u
+
+      point-pays : Holding t m r → (b : Bool) → ltb (taken + 1) count ≡ b
+          → Pays naming-mode t ps os m r line w
+          (cond b (waiting t ps os-then m r (Naming count (taken + 1) at)) (ordered t ps os-then m r (Several count) (announced (namedIn count os-then)) at))
+      point-pays h true e =
+          let l : taken + 1 < count = ltb-true (taken + 1) count e in
+          record {
+            owing = more-named;
+            sound = (h, record { more = l; few = far .few; nodes = kept-few taken point n os owns-long (few .0) (few .1) (far .nodes) (omega (arith, far .more, far .few)) });
+          }
+      point-pays h false e = record {
+        owing = last-named (omega (arith, far .more, ltb-false (taken + 1) count e));
+        sound = ordered-sound t ps os-then m r at (lineAfter line) (Several count) h (announced (namedIn count os-then));
+      }
+
+    pointed-pays : Holding t m r → (f : Frame) → Bounded f → Front w line f → Pays naming-mode t ps os m r line w (pointed count taken at f line t ps os m r)
+    unfolding pointed
+    pointed-pays h (frame.Header a b) few z = ends naming-mode 14 line (points-first (frame.Header a b) z)
+    pointed-pays h (frame.Symbol a b) few z = ends naming-mode 14 line (points-first (frame.Symbol a b) z)
+    pointed-pays h (frame.Production a b c) few z = ends naming-mode 14 line (points-first (frame.Production a b c) z)
+    pointed-pays h (frame.Equation a b c d) few z = ends naming-mode 14 line (points-first (frame.Equation a b c d) z)
+    pointed-pays h (frame.Node a b) few z = ends naming-mode 14 line (points-first (frame.Node a b) z)
+    pointed-pays h (frame.Load a) few z = ends naming-mode 14 line (points-first (frame.Load a) z)
+    pointed-pays h (frame.Replace a b) few z = ends naming-mode 14 line (points-first (frame.Replace a b) z)
+    pointed-pays h frame.Dump few z = ends naming-mode 14 line (points-first frame.Dump z)
+    pointed-pays h (frame.Corrections a) few z = ends naming-mode 14 line (points-first (frame.Corrections a) z)
+    pointed-pays h (frame.Correction point n) few z = point-pays point n few z h (ltb (taken + 1) count) refl
+    pointed-pays h (frame.Refused refusal own) few z = ends naming-mode (numberOf refusal) own (points-first (frame.Refused refusal own) z)
+    pointed-pays h frame.Over few z = absurd (z .some refl)
+
   -- ---- a node of a command is waited for
 
   module _ (order : Order) (count taken at : ℕ) (few : taken < count) (long : 513 ≤ length ps) (owns-long : 513 ≤ length os) where
@@ -189,7 +307,7 @@ module _ (t ps os : List ℕ) (m : Memory) (r : Record) (line : ℕ) (w : List �
     mode = NodesOf order count taken at
 
     abbrev carried : List ℕ → List ℕ → Told
-    carried qs ws = openedThen at t (orderCall order t m r qs ws)
+    carried qs ws = openedThen at t (orderCall order (pointsIn os) t m r qs ws)
 
     abbrev front-part : Nodes → Nodes
     front-part = behind (heard count taken ps) (heard count taken os)
@@ -220,21 +338,23 @@ module _ (t ps os : List ℕ) (m : Memory) (r : Record) (line : ℕ) (w : List �
       more-owed : taken + 1 < count → (u : List ℕ) → owed mode t ps os m r line (w ++ u) ≡ owed (NodesOf order count (taken + 1) at) t kept ownKept m r (lineAfter line) u
       unfolding owed
       more-owed h u =
-          node-line u
+          rw (nodes-apart taken o os)
+          (node-line u
           ∙ with-node carried (onward u t) (heard count taken ps) (heard count taken os) (heard count (taken + 1) kept) (heard count (taken + 1) ownKept) p o (nodesAt rest u 0 (lineAfter line))
-          (λ qs ws q next e. ap (openedThen at t) (order-next t m r order count taken p o ps os few long owns-long qs ws (omega (arith, nodes-forth rest u 0 (lineAfter line) qs ws q next e .count))))
+          (λ qs ws q next e. ap (openedThen at t) (order-next t m r order (pointsIn os) count taken p o ps os few long owns-long qs ws (omega (arith, nodes-forth rest u 0 (lineAfter line) qs ws q next e .count)))))
 
       last-owed : taken + 1 ≡ count → (u : List ℕ) → owed mode t ps os m r line (w ++ u) ≡ owes (called t kept ownKept m r order count at) (lineAfter line) u
       unfolding called nodesAt
       last-owed h u =
           let k : rest ≡ 0 = omega arith in
-          node-line u
-          ∙ rw (k, order-last t m r order count taken p o ps os few long owns-long h)
-          (opened-owed t kept ownKept m r at (lineAfter line) u (orderCall order t m r (take (min count 513) kept) (take (min count 513) ownKept)))
+          rw (nodes-apart taken o os)
+          (node-line u
+          ∙ rw (k, order-last t m r order (pointsIn os) count taken p o ps os few long owns-long h)
+          (opened-owed t kept ownKept m r at (lineAfter line) u (orderCall order (pointsIn os) t m r (take (min count 513) kept) (take (min count 513) ownKept))))
 
       called-sound : Holding t m r → SoundBy (called t kept ownKept m r order count at)
       unfolding called
-      called-sound h = order-keeps t m r h kept ownKept at order (take (min count 513) kept) (take (min count 513) ownKept)
+      called-sound h = order-keeps t m r h kept ownKept at order (pointsIn ownKept) (take (min count 513) kept) (take (min count 513) ownKept)
 
       node-pays : Holding t m r → (b : Bool) → ltb (taken + 1) count ≡ b
           → Pays mode t ps os m r line w (cond b (waiting t kept ownKept m r (NodesOf order count (taken + 1) at)) (called t kept ownKept m r order count at))
@@ -250,6 +370,8 @@ module _ (t ps os : List ℕ) (m : Memory) (r : Record) (line : ℕ) (w : List �
     noded-pays h (frame.Node p o) z = node-pays p o z h (ltb (taken + 1) count) refl
     noded-pays h (frame.Load a) z = ends mode 14 line (nodes-first (frame.Load a) z)
     noded-pays h (frame.Replace a b) z = ends mode 14 line (nodes-first (frame.Replace a b) z)
+    noded-pays h (frame.Corrections a) z = ends mode 14 line (nodes-first (frame.Corrections a) z)
+    noded-pays h (frame.Correction a b) z = ends mode 14 line (nodes-first (frame.Correction a b) z)
     noded-pays h frame.Dump z = ends mode 14 line (nodes-first frame.Dump z)
     noded-pays h (frame.Refused refusal own) z = ends mode (numberOf refusal) own (nodes-first (frame.Refused refusal own) z)
     noded-pays h frame.Over z = absurd (z .some refl)
@@ -260,8 +382,10 @@ pub line-pays : LinePays
 unfolding hearing
 line-pays (Table x) t ps os m r line w on sound room long owns-long h =
     tabled-pays t ps os m r line w (h .some) x (sound .1) (frameAt w 0 line .frame) (front w line h) (sound .0) room
-line-pays Command t ps os m r line w on sound room long owns-long h = commanded-pays t ps os m r line w (h .some) sound (frameAt w 0 line .frame) (front w line h)
+line-pays Command t ps os m r line w on sound room long owns-long h = commanded-pays t ps os m r line w (h .some) sound (frameAt w 0 line .frame) (bounded w 0 line) (front w line h)
+line-pays (Naming count taken at) t ps os m r line w on sound room long owns-long h =
+    pointed-pays t ps os m r line w (h .some) count taken at (sound .1) owns-long (sound .0) (frameAt w 0 line .frame) (bounded w 0 line) (front w line h)
 line-pays (NodesOf order count taken at) t ps os m r line w on sound room long owns-long h =
-    noded-pays t ps os m r line w (h .some) order count taken at (sound .1) long owns-long (sound .0) (frameAt w 0 line .frame) (front w line h)
+    noded-pays t ps os m r line w (h .some) order count taken at (sound .1) long (omega arith) (sound .0) (frameAt w 0 line .frame) (front w line h)
 line-pays (Working n) t ps os m r line w on sound room long owns-long h = absurd (true≢false (sym on))
 line-pays Stopped t ps os m r line w on sound room long owns-long h = record { owing = λ u. nothing-owed t ps os m r line (w ++ u) ∙ sym (nothing-owed t ps os m r (lineAfter line) u); sound = tt }

@@ -1,15 +1,17 @@
--- A text that stands behind another one: nodes, tables and commands are read there as they are without it, and from any number of turns on that
+-- A text that stands behind another one: nodes, points, tables and commands are read there as they are without it, and from any number of turns on that
 -- is as large as the bytes that are left nothing depends on that number. Assumes nothing.
-use mathlib.Core.Path.{_≡_, refl, ap, sym}
+use mathlib.Core.Path.{_≡_, refl, ap, sym, subst}
 use mathlib.Core.Bool.{Bool, true, false}
 use mathlib.Core.List.{List, [], _++_}
 use Prim.Native.Nat.{ℕ, zero, suc, _+_, _≤_, _<_}
 use native.Mathlib.Omega.{arith}
 use lib.ListN.{length, length-append}
+use Rattle.tree.specs.declared.Point.{Point}
+use Rattle.tree.specs.Handed.{announced, handedRow}
 use Rattle.update.specs.declared.Record.{Record}
 use Rattle.update.specs.Records.{emptyRecord}
 use Rattle.update.specs.Memories.{Memory}
-use Rattle.update.specs.Calls.{loadCall, replaceCall}
+use Rattle.update.specs.Calls.{loadCall, replaceCall, pointsCall}
 use Rattle.frames.specs.Frames.{frameAt}
 use Rattle.frames.specs.Walk.{isOn}
 use Rattle.texts.specs.Read.{typeOf, takenAt, wordsAfter}
@@ -22,11 +24,12 @@ use Rattle.planting.proofs.Trees.{nodes-forth}
 use Rattle.texts.proofs.Readings.{read-turn, read-ends}
 use Rattle.texts.proofs.Passing.{frame-on, none-left, taken-type, read-over}
 use Rattle.frames.specs.declared.Frame.{Frame}
-use Rattle.frames.specs.declared.Frame.the-variants.{Header, Symbol, Production, Equation, Node, Load, Replace, Dump, Refused, Over}
+use Rattle.frames.specs.declared.Frame.the-variants.{Header, Symbol, Production, Equation, Node, Load, Replace, Dump, Corrections, Correction, Refused, Over}
 use Rattle.frames.specs.declared.Expected.{Expected}
 use Rattle.frames.specs.declared.Step.{Step}
 use Rattle.frames.proofs.Back.{frame-behind}
-use Rattle.session.specs.Session.{Told, withNodes, openedThen, dumpTold, command, commandsFrom}
+use Rattle.session.specs.Naming.{Named, named, unnamed, pointBefore, pointThen, pointsAt}
+use Rattle.session.specs.Session.{Told, withNodes, withPoints, partsThen, openedThen, dumpTold, command, commandsFrom}
 use Rattle.owing.specs.Owed.{tableThen}
 
 -- ---- nodes
@@ -48,6 +51,8 @@ node-moved k (Node p o) line rest = before-moved k p o rest
 node-moved k (Load a) line rest = refl
 node-moved k (Replace a b) line rest = refl
 node-moved k Dump line rest = refl
+node-moved k (Corrections a) line rest = refl
+node-moved k (Correction a b) line rest = refl
 node-moved k (Refused a b) line rest = refl
 node-moved k Over line rest = refl
 
@@ -57,6 +62,74 @@ nodes-shift zero p s place line = refl
 nodes-shift (suc n) p s place line =
     let step : Step = frameAt s place line in
     rw (frame-behind p s place line, nodes-shift n p s (step .place) (step .line)) (node-moved (length p) (step .frame) line (nodesAt n s (step .place) (step .line)))
+
+-- ---- points
+
+abbrev pub movedNamed : ℕ → Named → Named
+movedNamed k (named qs place line) = named qs (k + place) line
+movedNamed k (unnamed refusal line) = unnamed refusal line
+
+point-before-moved : (k : ℕ) (q : Point) (rest : Named) → pointBefore q (movedNamed k rest) ≡ movedNamed k (pointBefore q rest)
+point-before-moved k q (named qs place line) = refl
+point-before-moved k q (unnamed refusal line) = refl
+
+point-moved : (k : ℕ) (f : Frame) (line : ℕ) (rest : Named) → pointThen f line (movedNamed k rest) ≡ movedNamed k (pointThen f line rest)
+point-moved k (Header a b) line rest = refl
+point-moved k (Symbol a b) line rest = refl
+point-moved k (Production a b c) line rest = refl
+point-moved k (Equation a b c d) line rest = refl
+point-moved k (Node a b) line rest = refl
+point-moved k (Load a) line rest = refl
+point-moved k (Replace a b) line rest = refl
+point-moved k Dump line rest = refl
+point-moved k (Corrections a) line rest = refl
+point-moved k (Correction a b) line rest = point-before-moved k (record { node = a; count = b }) rest
+point-moved k (Refused a b) line rest = refl
+point-moved k Over line rest = refl
+
+pub points-shift : (n : ℕ) (p s : List ℕ) (place line : ℕ) → pointsAt n (p ++ s) (length p + place) line ≡ movedNamed (length p) (pointsAt n s place line)
+unfolding pointsAt
+points-shift zero p s place line = refl
+points-shift (suc n) p s place line =
+    let step : Step = frameAt s place line in
+    rw (frame-behind p s place line, points-shift n p s (step .place) (step .line)) (point-moved (length p) (step .frame) line (pointsAt n s (step .place) (step .line)))
+
+-- as many points are read as were asked for, and the text goes on behind them
+pub record Pointed (place n : ℕ) (qs : List Point) (end : ℕ) : Type 0 where
+  pub behind : place ≤ end
+  pub count : length qs ≡ n
+
+abbrev PointedBy : ℕ → ℕ → Named → Type 0
+PointedBy place n (named qs end line) = Pointed place n qs end
+PointedBy place n (unnamed refusal line) = Unit {0}
+
+point-first : (place next n : ℕ) (q : Point) (rest : Named) → place ≤ next → PointedBy next n rest → PointedBy place (suc n) (pointBefore q rest)
+point-first place next n q (named qs end line) h x = record { behind = omega (arith, x .behind); count = ap suc (x .count) }
+point-first place next n q (unnamed refusal line) h x = tt
+
+first-point : (place next n line : ℕ) (f : Frame) (rest : Named) → (0 < typeOf f → place < next) → PointedBy next n rest → PointedBy place (suc n) (pointThen f line rest)
+first-point place next n line (Header a b) rest h x = tt
+first-point place next n line (Symbol a b) rest h x = tt
+first-point place next n line (Production a b c) rest h x = tt
+first-point place next n line (Equation a b c d) rest h x = tt
+first-point place next n line (Node a b) rest h x = tt
+first-point place next n line (Load a) rest h x = tt
+first-point place next n line (Replace a b) rest h x = tt
+first-point place next n line Dump rest h x = tt
+first-point place next n line (Corrections a) rest h x = tt
+first-point place next n line (Correction a b) rest h x = point-first place next n (record { node = a; count = b }) rest (let l = h (omega arith) in omega arith) x
+first-point place next n line (Refused a b) rest h x = tt
+first-point place next n line Over rest h x = tt
+
+all-pointed : (n : ℕ) (s : List ℕ) (place line : ℕ) → PointedBy place n (pointsAt n s place line)
+unfolding pointsAt
+all-pointed zero s place line = record { behind = omega arith; count = refl }
+all-pointed (suc n) s place line =
+    let step : Step = frameAt s place line in
+    first-point place (step .place) n line (step .frame) (pointsAt n s (step .place) (step .line)) (frame-on s place line) (all-pointed n s (step .place) (step .line))
+
+pub points-forth : (n : ℕ) (s : List ℕ) (place line : ℕ) (qs : List Point) (end next : ℕ) → pointsAt n s place line ≡ named qs end next → Pointed place n qs end
+points-forth n s place line qs end next e = subst (PointedBy place n) e (all-pointed n s place line)
 
 -- ---- a table
 
@@ -111,6 +184,11 @@ pub with-moved : (k : ℕ) (x : Nodes) (call : List ℕ → List ℕ → Told) (
 with-moved k (good ps os place line) call go on e = ap (λ (z : List ℕ). call ps os .text ++ z) (e ps os place line refl (call ps os .next) (call ps os .memory))
 with-moved k (bad refusal line) call go on e = refl
 
+pub points-moved : (k : ℕ) (x : Named) (go on : List Point → ℕ → ℕ → List ℕ)
+    → ((qs : List Point) (place line : ℕ) → x ≡ named qs place line → go qs (k + place) line ≡ on qs place line) → withPoints (movedNamed k x) go ≡ withPoints x on
+points-moved k (named qs place line) go on e = e qs place line refl
+points-moved k (unnamed refusal line) go on e = refl
+
 module _ (p s t : List ℕ) (go on : Going-on) where
   -- what goes on from a place on is the same
   abbrev pub Same-from : ℕ → Type 0
@@ -122,6 +200,19 @@ module _ (p s t : List ℕ) (go on : Going-on) where
       rw (nodes-shift count p s place next)
       (with-moved (length p) (nodesAt count s place next) call go on (λ ps os q line h r m. e q line r m (omega (arith, nodes-forth count s place next ps os q line h .behind))))
 
+  -- a command whose points are named
+  pub parts-moved : (line : ℕ) (r : Record) (m : Memory) (qs : List Point) (place next : ℕ) → Same-from place
+      → partsThen (p ++ s) t line r m go qs (length p + place) next ≡ partsThen s t line r m on qs place next
+  parts-moved line r m qs place next e = nodes-moved (announced qs) place next (λ ps os. openedThen line t (pointsCall t m r (handedRow qs ps os))) e
+
+  named-moved : (count line place next : ℕ) (r : Record) (m : Memory) → Same-from place
+      → withPoints (pointsAt count (p ++ s) (length p + place) next) (partsThen (p ++ s) t line r m go) ≡ withPoints (pointsAt count s place next) (partsThen s t line r m on)
+  named-moved count line place next r m e =
+      rw (points-shift count p s place next)
+      (points-moved (length p) (pointsAt count s place next) (partsThen (p ++ s) t line r m go) (partsThen s t line r m on) (λ qs end last h.
+      let b = points-forth count s place next qs end last h .behind in
+      parts-moved line r m qs end last (λ q line′ r′ m′ i. e q line′ r′ m′ (omega arith))))
+
   pub command-moved : (f : Frame) (line place next : ℕ) (r : Record) (m : Memory) → (0 < typeOf f → Same-from place)
       → command (p ++ s) t f line (length p + place) next r m go ≡ command s t f line place next r m on
   command-moved (Header a b) line place next r m e = refl
@@ -131,6 +222,8 @@ module _ (p s t : List ℕ) (go on : Going-on) where
   command-moved (Node a b) line place next r m e = refl
   command-moved (Load count) line place next r m e = nodes-moved count place next (λ ps os. openedThen line t (loadCall t m r ps os)) (e (omega arith))
   command-moved (Replace point count) line place next r m e = nodes-moved count place next (λ ps os. openedThen line t (replaceCall t m r point ps os)) (e (omega arith))
+  command-moved (Corrections count) line place next r m e = named-moved count line place next r m (e (omega arith))
+  command-moved (Correction a b) line place next r m e = refl
   command-moved Dump line place next r m e =
       let told : Told = dumpTold line t r m in
       ap (λ (z : List ℕ). told .text ++ z) (e (omega arith) place next (told .next) (told .memory) (omega arith))

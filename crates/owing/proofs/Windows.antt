@@ -17,10 +17,10 @@ use Rattle.lines.specs.declared.Line.the-variants.{Digits, Bad, End}
 use Rattle.lines.proofs.Values.{lt-or-ge}
 use Rattle.lines.proofs.Window.{Alike, num-alike, line-ahead}
 use Rattle.lines.proofs.Rows.{line-says, end-says}
-use Rattle.frames.specs.Frames.{wrongLength, sized, childAt, dumpOf, headerOf, symbolOf, productionOf, equationOf, nodeOf, loadOf, replaceOf, kindOf, frameOf, stepOf, frameAt, lineAfter}
+use Rattle.frames.specs.Frames.{wrongLength, sized, childAt, dumpOf, headerOf, symbolOf, productionOf, equationOf, nodeOf, loadOf, replaceOf, correctionsOf, correctionOf, kindOf, frameOf, stepOf, frameAt, lineAfter}
 use Rattle.texts.specs.Read.{typeOf}
 use Rattle.frames.specs.declared.Frame.{Frame}
-use Rattle.frames.specs.declared.Frame.the-variants.{Header, Symbol, Production, Equation, Node, Load, Replace, Dump, Refused, Over}
+use Rattle.frames.specs.declared.Frame.the-variants.{Header, Symbol, Production, Equation, Node, Load, Replace, Dump, Corrections, Correction, Refused, Over}
 use Rattle.owing.specs.Owed.{Begun, Whole}
 
 -- ---- rows of digits
@@ -122,6 +122,14 @@ module _ (s t : List ℕ) (a b n line : ℕ) (h : Alike s t a b n) where
   unfolding replaceOf
   replace-same = either 10 _ _ (λ e. rw (num 4 2 (omega arith), num 4 6 (omega arith)))
 
+  corrections-same : correctionsOf s a n line ≡ correctionsOf t b n line
+  unfolding correctionsOf
+  corrections-same = either 4 _ _ (λ e. rw (num 2 2 (omega arith)))
+
+  correction-same : correctionOf s a n line ≡ correctionOf t b n line
+  unfolding correctionOf
+  correction-same = either 10 _ _ (λ e. rw (num 4 2 (omega arith), num 4 6 (omega arith)))
+
   child-same : (c j : ℕ) → n ≡ 6 + 2 * c → childAt s a c j ≡ childAt t b c j
   child-same c j e = by-test (ltb j c) refl
     where
@@ -158,7 +166,7 @@ module _ (s t : List ℕ) (a b n line : ℕ) (h : Alike s t a b n) where
   unfolding frameOf kindOf
   frame-same two =
       let e : numAt 2 s a ≡ numAt 2 t b = ap (numAt 2 s) (sym (add-zero a)) ∙ num 2 0 (omega arith) ∙ ap (numAt 2 t) (add-zero b) in
-      rw (e, header-same, symbol-same, production-same, equation-same, node-same, load-same, replace-same)
+      rw (e, header-same, symbol-same, production-same, equation-same, node-same, load-same, replace-same, corrections-same, correction-same)
 
 -- ---- what a whole line is
 
@@ -179,6 +187,8 @@ isFrame (Node a b) = true
 isFrame (Load a) = true
 isFrame (Replace a b) = true
 isFrame Dump = true
+isFrame (Corrections a) = true
+isFrame (Correction a b) = true
 isFrame (Refused a b) = true
 isFrame Over = false
 
@@ -187,13 +197,14 @@ of-two true x y g h = g
 of-two false x y g h = h
 
 is-frame : (s : List ℕ) (place n line : ℕ) → isFrame (frameOf s place n line) ≡ true
-unfolding isFrame frameOf kindOf headerOf symbolOf productionOf equationOf nodeOf loadOf replaceOf dumpOf
+unfolding isFrame frameOf kindOf headerOf symbolOf productionOf equationOf nodeOf loadOf replaceOf dumpOf correctionsOf correctionOf
 is-frame s place n line =
     let t : ℕ = numAt 2 s place in
     of-two (eqb t 1) _ _ (of-two (eqb n 6) _ _ refl refl) (of-two (eqb t 2) _ _ (of-two (eqb n 6) _ _ refl refl)
     (of-two (eqb t 3) _ _ (of-two (ltb n 6) _ _ refl (of-two (eqb n (6 + 2 * numAt 2 s (place + 4))) _ _ refl refl)) (of-two (eqb t 4) _ _ (of-two (eqb n 28) _ _ refl refl)
     (of-two (eqb t 5) _ _ (of-two (eqb n 20) _ _ refl refl) (of-two (eqb t 6) _ _ (of-two (eqb n 6) _ _ refl refl)
-    (of-two (eqb t 7) _ _ (of-two (eqb n 10) _ _ refl refl) (of-two (eqb t 8) _ _ (of-two (eqb n 2) _ _ refl refl) refl)))))))
+    (of-two (eqb t 7) _ _ (of-two (eqb n 10) _ _ refl refl) (of-two (eqb t 8) _ _ (of-two (eqb n 2) _ _ refl refl)
+    (of-two (eqb t 9) _ _ (of-two (eqb n 4) _ _ refl refl) (of-two (eqb t 11) _ _ (of-two (eqb n 10) _ _ refl refl) refl)))))))))
 
 not-over : (s : List ℕ) (place n line : ℕ) → frameOf s place n line ≡ Over → ⊥
 unfolding isFrame

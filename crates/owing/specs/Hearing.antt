@@ -2,9 +2,9 @@
 use mathlib.Core.Path.{_≡_}
 use mathlib.Core.Bool.{Bool, true, false, cond}
 use mathlib.Core.List.{List, [], _∷_, _++_}
-use Prim.Native.Nat.{ℕ, zero, suc, _+_, _≤_, _<_, min}
+use Prim.Native.Nat.{ℕ, zero, suc, _+_, _%_, _^_, _≤_, _<_, min}
 use lib.Dec.{ltb}
-use lib.ListN.{length, take, set}
+use lib.ListN.{length, getD, take, set}
 use lib.Seq.{sets}
 use Rattle.refusal.specs.Numbers.{numberOf}
 use Rattle.update.specs.declared.Record.{Record}
@@ -20,11 +20,12 @@ use Rattle.frames.specs.declared.Frame.the-variants as frame
 use Rattle.texts.specs.Read.{wordsAfter, takenAt}
 use Rattle.frames.specs.Out.{refusalText}
 use Rattle.session.specs.Session.{dumpTold}
-use Rattle.owing.specs.Owed.{orderCall}
+use Rattle.tree.specs.Handed.{announced}
+use Rattle.owing.specs.Owed.{pointWord, pointsIn, namedIn, orderCall}
 use Rattle.owing.specs.declared.Order.{Order}
-use Rattle.owing.specs.declared.Order.the-variants.{Load, Replace}
+use Rattle.owing.specs.declared.Order.the-variants.{Load, Replace, Several}
 use Rattle.owing.specs.declared.Mode.{Mode}
-use Rattle.owing.specs.declared.Mode.the-variants.{Table, Command, Nodes, Working, Stopped}
+use Rattle.owing.specs.declared.Mode.the-variants.{Table, Command, Naming, Nodes, Working, Stopped}
 use Rattle.owing.specs.declared.Told.{Told}
 
 -- what is waited for, what is printed, and the record, the table's words, the nodes that have come and the memory
@@ -57,6 +58,8 @@ module _ (t ps os : List ℕ) (m : Memory) (r : Record) where
   strange (frame.Load a) line = stopped 14 line
   strange (frame.Replace a b) line = stopped 14 line
   strange frame.Dump line = stopped 14 line
+  strange (frame.Corrections a) line = stopped 14 line
+  strange (frame.Correction a b) line = stopped 14 line
   strange (frame.Refused refusal own) line = stopped (numberOf refusal) own
   strange frame.Over line = stopped 14 line
 
@@ -74,12 +77,17 @@ module _ (t ps os : List ℕ) (m : Memory) (r : Record) where
 
   -- more nodes than 512 are refused whatever they are: 513 stand for them
   unfoldable pub called : Order → ℕ → ℕ → Heard
-  called order count command = openedBy command (orderCall order t m r (take (min count 513) ps) (take (min count 513) os))
+  called order count command = openedBy command (orderCall order (pointsIn os) t m r (take (min count 513) ps) (take (min count 513) os))
 
   -- a command's first line: its nodes are waited for, if it has any
   abbrev pub ordered : Order → ℕ → ℕ → Heard
   ordered order zero line = called order zero line
   ordered order (suc n) line = waiting (Nodes order (suc n) 0 line)
+
+  -- a command that names points: they are waited for, if it has any
+  abbrev pub naming : ℕ → ℕ → Heard
+  naming zero line = called (Several 0) 0 line
+  naming (suc n) line = waiting (Naming (suc n) 0 line)
 
   unfoldable pub commanded : Frame → ℕ → Heard
   commanded (frame.Header a b) line = strange (frame.Header a b) line
@@ -89,6 +97,8 @@ module _ (t ps os : List ℕ) (m : Memory) (r : Record) where
   commanded (frame.Node a b) line = strange (frame.Node a b) line
   commanded (frame.Load count) line = ordered Load count line
   commanded (frame.Replace point count) line = ordered (Replace point) count line
+  commanded (frame.Corrections count) line = naming count line
+  commanded (frame.Correction a b) line = strange (frame.Correction a b) line
   commanded frame.Dump line =
       record { mode = Command; text = dumpTold line t r m .text; next = r; words = t; parts = ps; partOwns = os; memory = m }
   commanded (frame.Refused refusal own) line = strange (frame.Refused refusal own) line
@@ -111,6 +121,29 @@ tabled w ps os m (StoppedAt refusal line) = stopped w ps os m emptyRecord (numbe
 abbrev pub keptAt : ℕ → ℕ → List ℕ → List ℕ
 keptAt taken x xs = cond (ltb taken 513) (set xs taken x) xs
 
+-- a point is kept in the words for points; behind the eighth its count is added to that one's
+unfoldable pub pointKept : ℕ → ℕ → ℕ → List ℕ → List ℕ
+pointKept taken point count os = cond (ltb taken 8) (set os (513 + taken) (pointWord point count)) (set os 520 (getD os 520 0 % 2 ^ 48 + count))
+
+-- a command's point: the next is waited for, or the nodes of all parts
+unfoldable pub pointed : ℕ → ℕ → ℕ → Frame → ℕ → List ℕ → List ℕ → List ℕ → Memory → Record → Heard
+pointed count taken command (frame.Header a b) line t ps os m r = strange t ps os m r (frame.Header a b) line
+pointed count taken command (frame.Symbol a b) line t ps os m r = strange t ps os m r (frame.Symbol a b) line
+pointed count taken command (frame.Production a b c) line t ps os m r = strange t ps os m r (frame.Production a b c) line
+pointed count taken command (frame.Equation a b c d) line t ps os m r = strange t ps os m r (frame.Equation a b c d) line
+pointed count taken command (frame.Node a b) line t ps os m r = strange t ps os m r (frame.Node a b) line
+pointed count taken command (frame.Load a) line t ps os m r = strange t ps os m r (frame.Load a) line
+pointed count taken command (frame.Replace a b) line t ps os m r = strange t ps os m r (frame.Replace a b) line
+pointed count taken command frame.Dump line t ps os m r = strange t ps os m r frame.Dump line
+pointed count taken command (frame.Corrections a) line t ps os m r = strange t ps os m r (frame.Corrections a) line
+pointed count taken command (frame.Correction point n) line t ps os m r =
+    let os′ = pointKept taken point n os in
+    cond (ltb (taken + 1) count)
+    (waiting t ps os′ m r (Naming count (taken + 1) command))
+    (ordered t ps os′ m r (Several count) (announced (namedIn count os′)) command)
+pointed count taken command (frame.Refused refusal own) line t ps os m r = strange t ps os m r (frame.Refused refusal own) line
+pointed count taken command frame.Over line t ps os m r = strange t ps os m r frame.Over line
+
 -- a command's node: the next is waited for, or the command is carried out
 unfoldable pub noded : Order → ℕ → ℕ → ℕ → Frame → ℕ → List ℕ → List ℕ → List ℕ → Memory → Record → Heard
 noded order count taken command (frame.Header a b) line t ps os m r = strange t ps os m r (frame.Header a b) line
@@ -124,6 +157,8 @@ noded order count taken command (frame.Node p o) line t ps os m r =
 noded order count taken command (frame.Load a) line t ps os m r = strange t ps os m r (frame.Load a) line
 noded order count taken command (frame.Replace a b) line t ps os m r = strange t ps os m r (frame.Replace a b) line
 noded order count taken command frame.Dump line t ps os m r = strange t ps os m r frame.Dump line
+noded order count taken command (frame.Corrections a) line t ps os m r = strange t ps os m r (frame.Corrections a) line
+noded order count taken command (frame.Correction a b) line t ps os m r = strange t ps os m r (frame.Correction a b) line
 noded order count taken command (frame.Refused refusal own) line t ps os m r = strange t ps os m r (frame.Refused refusal own) line
 noded order count taken command frame.Over line t ps os m r = strange t ps os m r frame.Over line
 
@@ -131,6 +166,7 @@ noded order count taken command frame.Over line t ps os m r = strange t ps os m 
 unfoldable pub hearing : Mode → Frame → ℕ → List ℕ → List ℕ → List ℕ → Memory → Record → Heard
 hearing (Table x) f line t ps os m r = tabled (wordsAfter t x f) ps os m (takenAt t x f line)
 hearing Command f line t ps os m r = commanded t ps os m r f line
+hearing (Naming count taken command) f line t ps os m r = pointed count taken command f line t ps os m r
 hearing (Nodes order count taken command) f line t ps os m r = noded order count taken command f line t ps os m r
 hearing (Working turns) f line t ps os m r = waiting t ps os m r (Working turns)
 hearing Stopped f line t ps os m r = waiting t ps os m r Stopped

@@ -2,16 +2,22 @@
 use frames::Expected;
 use update::Record;
 
-// The two commands that open an update; a replacement names its point.
+// The commands that open an update; a replacement names its point, or how many points were named.
 pub enum Order {
     Load,
     Replace(usize),
+    Several(usize),
 }
 
-// What is waited for: a frame of the table, a command, a node of a command at its line, or nothing while an update has rounds to make; or the session is over.
+// What is waited for: a frame of the table, a command, a point or a node of a command at its line, or nothing while an update has rounds to make; or the session is over.
 pub enum Mode {
     Table(Expected),
     Command,
+    Naming {
+        count: usize,
+        taken: usize,
+        line: u32,
+    },
     Nodes {
         order: Order,
         count: usize,

@@ -12,7 +12,7 @@ use Rattle.update.specs.Refusals.{firstRefusal}
 use Rattle.frames.specs.Frames.{frameAt, lineAfter}
 use Rattle.owing.specs.Hearing.{Heard, hearing, Spacious}
 use Rattle.owing.specs.declared.Mode.{Mode}
-use Rattle.owing.specs.declared.Mode.the-variants.{Table, Command, Nodes, Working, Stopped}
+use Rattle.owing.specs.declared.Mode.the-variants.{Table, Command, Naming, Nodes, Working, Stopped}
 use Rattle.telling.specs.Telling.{Worked, stepsWithin}
 use Rattle.desk.specs.Desk.{Desk, desk}
 use Rattle.desk.specs.Gathering.{Gathers}
@@ -70,6 +70,7 @@ module _ (d : Desk) (piece : List ℕ) (from : ℕ) (out : List ℕ) (printed : 
   turned : (mode : Mode) → d .state .mode ≡ mode → Turned d piece from out printed
   turned (Table x) e = listened (rw e)
   turned Command e = listened (rw e)
+  turned (Naming count taken line) e = listened (rw e)
   turned (Nodes order count taken line) e = listened (rw e)
   turned (Working turns) e = worked turns e
   turned Stopped e = turned-by (over (d .words) (d .window) (d .parts) (d .partOwns) (d .memory) (d .state) piece from out printed ready space e)
@@ -123,7 +124,7 @@ pub always-answered : AlwaysAnswered
 always-answered d piece from out fits =
     let w = d .words in
     let wide = fits .wide in
-    let judged : firstRefusal (settledNumbers (d .state) (take 2657 (d .words)) (d .window) (d .memory)) ≡ 0 =
+    let judged : firstRefusal (settledNumbers (d .state) (take 2657 (d .words)) (d .window) (d .partOwns) (d .memory)) ≡ 0 =
     sym (copy-number w (take 2657 w) (d .window) (d .parts) (d .partOwns) (d .memory) (d .state) out refl wide) ∙ all-state-gives d out .by0 .1 fits in
     let ready = ready-of w (take 2657 w) (d .window) (d .parts) (d .partOwns) (d .memory) (d .state) out refl wide judged in
     let r = run (desk (take 2657 w) (d .window) (d .parts) (d .partOwns) (d .memory) (d .state)) piece from out ready in

@@ -20,7 +20,7 @@ pub program-starts : ProgramStarts
 unfolding firstOut
 program-starts = record {
   fits = record {
-    wide = record { words-room = room 2657; window-room = room 29; parts-room = room 513; owns-room = room 513; room = own-roomy; out-room = room 131072 };
+    wide = record { words-room = room 2657; window-room = room 29; parts-room = room 513; owns-room = room 521; room = own-roomy; out-room = room 131072 };
     begun = omega arith;
     line = record { few = omega arith; no-end = λ i k e. omega (arith, k) };
     sound = (tt, refl);

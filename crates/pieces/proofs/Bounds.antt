@@ -22,14 +22,15 @@ use Rattle.texts.proofs.Readings.{words-length}
 use Rattle.judging.specs.Order.{Holding}
 use Rattle.frames.specs.Out.{refusalText}
 use Rattle.session.specs.Session.{dumpTold}
-use Rattle.owing.specs.Owed.{Sound, orderCall}
-use Rattle.owing.specs.Hearing.{Heard, stopped, waiting, turnsMost, openedBy, called, ordered, commanded, tabled, noded, keptAt, hearing}
+use Rattle.tree.specs.Handed.{announced}
+use Rattle.owing.specs.Owed.{Sound, pointsIn, namedIn, orderCall}
+use Rattle.owing.specs.Hearing.{Heard, stopped, waiting, turnsMost, openedBy, called, ordered, naming, commanded, tabled, pointKept, pointed, noded, keptAt, hearing}
 use Rattle.owing.specs.declared.Order.{Order}
-use Rattle.owing.specs.declared.Order.the-variants.{Load, Replace}
+use Rattle.owing.specs.declared.Order.the-variants.{Load, Replace, Several}
 use Rattle.owing.specs.declared.Mode.{Mode}
-use Rattle.owing.specs.declared.Mode.the-variants.{Table, Command, Nodes, Working, Stopped}
+use Rattle.owing.specs.declared.Mode.the-variants.{Table, Command, Naming, Nodes, Working, Stopped}
 use Rattle.owing.proofs.Opened.{SameLengths, lengths-self, order-lengths}
-use Rattle.hearing.proofs.Cases.{kept-long}
+use Rattle.hearing.proofs.Cases.{kept-long, point-long}
 use Rattle.hearing.proofs.Heard.{refusal-length}
 use Rattle.hearing.proofs.Dumps.{dump-busy, dump-absent, dump-sets, told-most}
 
@@ -63,11 +64,16 @@ module _ (t ps os : List ℕ) (m : Memory) (r : Record) where
   calls : (order : Order) (count at : ℕ) → Modest t ps os m (called t ps os m r order count at)
   unfolding called
   calls order count at =
-      opens at (orderCall order t m r (take (min count 513) ps) (take (min count 513) os)) (order-lengths t m r order (take (min count 513) ps) (take (min count 513) os))
+      opens at (orderCall order (pointsIn os) t m r (take (min count 513) ps) (take (min count 513) os))
+      (order-lengths t m r order (pointsIn os) (take (min count 513) ps) (take (min count 513) os))
 
   orders : (order : Order) (count line : ℕ) → Modest t ps os m (ordered t ps os m r order count line)
   orders order zero line = calls order zero line
   orders order (suc n) line = waits (Nodes order (suc n) 0 line)
+
+  names : (count line : ℕ) → Modest t ps os m (naming t ps os m r count line)
+  names zero line = calls (Several 0) 0 line
+  names (suc n) line = waits (Naming (suc n) 0 line)
 
   -- "for a dump `13` instance (2), value (8)": 23 bytes for each of the slots
   dump-few : (line : ℕ) → Holding t m r → length (dumpTold line t r m .text) ≤ 94208
@@ -90,6 +96,8 @@ module _ (t ps os : List ℕ) (m : Memory) (r : Record) where
   commands k (frame.Node a b) line = stops 14 line
   commands k (frame.Load count) line = orders Load count line
   commands k (frame.Replace point count) line = orders (Replace point) count line
+  commands k (frame.Corrections count) line = names count line
+  commands k (frame.Correction a b) line = stops 14 line
   commands k frame.Dump line = modest Command (dumpTold line t r m .text) r m (lengths-self m) (dump-few line k)
   commands k (frame.Refused refusal own) line = stops (numberOf refusal) own
   commands k frame.Over line = stops 14 line
@@ -97,6 +105,28 @@ module _ (t ps os : List ℕ) (m : Memory) (r : Record) where
 -- over others of the same lengths
 over : {t ps qs os ws : List ℕ} {m : Memory} {h : Heard} → length qs ≡ length ps → length ws ≡ length os → Modest t qs ws m h → Modest t ps os m h
 over e f k = record { words = k .words; parts = k .parts ∙ e; owns = k .owns ∙ f; memory = k .memory; few = k .few }
+
+point-comes : (b : Bool) (t ps os : List ℕ) (m : Memory) (r : Record) (mode : Mode) (order : Order) (count at : ℕ)
+    → Modest t ps os m (cond b (waiting t ps os m r mode) (ordered t ps os m r order count at))
+point-comes true t ps os m r mode order count at = waits t ps os m r mode
+point-comes false t ps os m r mode order count at = orders t ps os m r order count at
+
+points : (count taken at : ℕ) (f : Frame) (line : ℕ) (t ps os : List ℕ) (m : Memory) (r : Record) → Modest t ps os m (pointed count taken at f line t ps os m r)
+unfolding pointed
+points count taken at (frame.Header a b) line t ps os m r = stops t ps os m r 14 line
+points count taken at (frame.Symbol a b) line t ps os m r = stops t ps os m r 14 line
+points count taken at (frame.Production a b c) line t ps os m r = stops t ps os m r 14 line
+points count taken at (frame.Equation a b c d) line t ps os m r = stops t ps os m r 14 line
+points count taken at (frame.Node a b) line t ps os m r = stops t ps os m r 14 line
+points count taken at (frame.Load a) line t ps os m r = stops t ps os m r 14 line
+points count taken at (frame.Replace a b) line t ps os m r = stops t ps os m r 14 line
+points count taken at frame.Dump line t ps os m r = stops t ps os m r 14 line
+points count taken at (frame.Corrections a) line t ps os m r = stops t ps os m r 14 line
+points count taken at (frame.Correction point n) line t ps os m r =
+    let os′ = pointKept taken point n os in
+    over refl (point-long taken point n os) (point-comes (ltb (taken + 1) count) t ps os′ m r (Naming count (taken + 1) at) (Several count) (announced (namedIn count os′)) at)
+points count taken at (frame.Refused refusal own) line t ps os m r = stops t ps os m r (numberOf refusal) own
+points count taken at frame.Over line t ps os m r = stops t ps os m r 14 line
 
 node-comes : (b : Bool) (t ps os : List ℕ) (m : Memory) (r : Record) (mode : Mode) (order : Order) (count at : ℕ)
     → Modest t ps os m (cond b (waiting t ps os m r mode) (called t ps os m r order count at))
@@ -114,6 +144,8 @@ nodes order count taken at (frame.Node p o) line t ps os m r =
 nodes order count taken at (frame.Load a) line t ps os m r = stops t ps os m r 14 line
 nodes order count taken at (frame.Replace a b) line t ps os m r = stops t ps os m r 14 line
 nodes order count taken at frame.Dump line t ps os m r = stops t ps os m r 14 line
+nodes order count taken at (frame.Corrections a) line t ps os m r = stops t ps os m r 14 line
+nodes order count taken at (frame.Correction a b) line t ps os m r = stops t ps os m r 14 line
 nodes order count taken at (frame.Refused refusal own) line t ps os m r = stops t ps os m r (numberOf refusal) own
 nodes order count taken at frame.Over line t ps os m r = stops t ps os m r 14 line
 
@@ -121,10 +153,11 @@ tables : (t w ps os : List ℕ) (m : Memory) (x : Taken) → length w ≡ length
 tables t w ps os m (Next y) e = record { words = e; parts = refl; owns = refl; memory = lengths-self m; few = omega arith }
 tables t w ps os m (StoppedAt refusal line) e = record { words = e; parts = refl; owns = refl; memory = lengths-self m; few = omega (arith, refusal-length (numberOf refusal) line) }
 
-pub heard-modest : (mode : Mode) (f : Frame) (line : ℕ) (t ps os : List ℕ) (m : Memory) (r : Record) → Sound mode t m r → Modest t ps os m (hearing mode f line t ps os m r)
+pub heard-modest : (mode : Mode) (f : Frame) (line : ℕ) (t ps os : List ℕ) (m : Memory) (r : Record) → Sound mode t os m r → Modest t ps os m (hearing mode f line t ps os m r)
 unfolding hearing
 heard-modest (Table x) f line t ps os m r k = tables t (wordsAfter t x f) ps os m (takenAt t x f line) (words-length t x f)
 heard-modest Command f line t ps os m r k = commands t ps os m r k f line
+heard-modest (Naming count taken at) f line t ps os m r k = points count taken at f line t ps os m r
 heard-modest (Nodes order count taken at) f line t ps os m r k = nodes order count taken at f line t ps os m r
 heard-modest (Working turns) f line t ps os m r k = waits t ps os m r (Working turns)
 heard-modest Stopped f line t ps os m r k = waits t ps os m r Stopped

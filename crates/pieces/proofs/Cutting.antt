@@ -9,7 +9,7 @@ use Rattle.session.specs.Session.{session}
 use Rattle.owing.specs.Owed.{owed}
 use Rattle.owing.specs.Laws.{listens, endText}
 use Rattle.owing.specs.declared.Mode.{Mode}
-use Rattle.owing.specs.declared.Mode.the-variants.{Table, Command, Nodes, Working, Stopped}
+use Rattle.owing.specs.declared.Mode.the-variants.{Table, Command, Naming, Nodes, Working, Stopped}
 use Rattle.owing.proofs.Ending.{end-pays, all-owed}
 use Rattle.desk.specs.Desk.{Desk, Fits, tableOf, lineOf, owedFor}
 use Rattle.desk.specs.Ending.{lastText}
@@ -35,6 +35,7 @@ module _ (d : Desk) where
       → (u : List ℕ) → owedFor d (drop place piece ++ u) ≡ owedFor d u
   used-up piece place h (Table x) e u = rw (drop-of-length-le piece (h (λ o. let z : _≡_ {A = ℕ} 0 1 = cc in omega arith)))
   used-up piece place h Command e u = rw (drop-of-length-le piece (h (λ o. let z : _≡_ {A = ℕ} 0 1 = cc in omega arith)))
+  used-up piece place h (Naming count taken line) e u = rw (drop-of-length-le piece (h (λ o. let z : _≡_ {A = ℕ} 0 1 = cc in omega arith)))
   used-up piece place h (Nodes order count taken line) e u = rw (drop-of-length-le piece (h (λ o. let z : _≡_ {A = ℕ} 0 1 = cc in omega arith)))
   used-up piece place h (Working turns) e u = rw (drop-of-length-le piece (h (λ o. let z : _≡_ {A = ℕ} 0 1 = cc in omega arith)))
   used-up piece place h Stopped e u = owes-none (drop place piece ++ u) e ∙ sym (owes-none u e)

@@ -23,7 +23,7 @@ use Rattle.telling.specs.Telling.{Worked, Rests, ended, full, RoundsPaid, Round
 use Rattle.telling.proofs.Paying.{rounds-pay}
 use Rattle.owing.specs.Laws.{listens, Pays}
 use Rattle.owing.specs.declared.Mode.{Mode}
-use Rattle.owing.specs.declared.Mode.the-variants.{Table, Command, Nodes, Working, Stopped}
+use Rattle.owing.specs.declared.Mode.the-variants.{Table, Command, Naming, Nodes, Working, Stopped}
 use Rattle.owing.specs.declared.Told.{Told}
 use Rattle.owing.proofs.Mode as M
 use Rattle.owing.proofs.Owing.{line-pays}
@@ -143,16 +143,18 @@ fares-out {out = out} x = ap length (x .shown) ∙ length-sets out 0 (x .text)
 
 -- ---- what is waited for
 
-pub not-working : (mode : Mode) → OneOf (0 ∷ 1 ∷ 2 ∷ 4 ∷ []) (tagOf M.the-type mode) → listens mode ≡ true
+pub not-working : (mode : Mode) → OneOf (0 ∷ 1 ∷ 2 ∷ 3 ∷ 5 ∷ []) (tagOf M.the-type mode) → listens mode ≡ true
 not-working (Table x) k = refl
 not-working Command k = refl
+not-working (Naming count taken line) k = refl
 not-working (Nodes order count taken line) k = refl
-not-working (Working turns) k = absurd (miss (0 ∷ 1 ∷ 2 ∷ 4 ∷ []) 3 tt k)
+not-working (Working turns) k = absurd (miss (0 ∷ 1 ∷ 2 ∷ 3 ∷ 5 ∷ []) 4 tt k)
 not-working Stopped k = refl
 
 pub not-silent : (mode : Mode) → listens mode ≡ true → (mode ≡ Stopped → ⊥) → silent mode ≡ false
 not-silent (Table x) k h = refl
 not-silent Command k h = refl
+not-silent (Naming count taken line) k h = refl
 not-silent (Nodes order count taken line) k h = refl
 not-silent (Working turns) k h = absurd (true≢false (sym k))
 not-silent Stopped k h = absurd (h refl)
@@ -160,6 +162,7 @@ not-silent Stopped k h = absurd (h refl)
 listening : (mode : Mode) → silent mode ≡ false → listens mode ≡ true
 listening (Table x) k = refl
 listening Command k = refl
+listening (Naming count taken line) k = refl
 listening (Nodes order count taken line) k = refl
 listening (Working turns) k = absurd (true≢false k)
 listening Stopped k = absurd (true≢false k)
@@ -167,6 +170,7 @@ listening Stopped k = absurd (true≢false k)
 at-work-most : (mode : Mode) → atWork mode ≤ 1
 at-work-most (Table x) = omega arith
 at-work-most Command = omega arith
+at-work-most (Naming count taken line) = omega arith
 at-work-most (Nodes order count taken line) = omega arith
 at-work-most (Working turns) = omega arith
 at-work-most Stopped = omega arith
@@ -197,7 +201,7 @@ module _ (t w ps os : List ℕ) (m : Memory) (s : State) (piece : List ℕ) (fro
   table-whole : tableOf here ≡ t
   table-whole = take-all 2657 t (omega (arith, ready .size))
 
-  pub sound-here : Sound (s .mode) t m (s .«record»)
+  pub sound-here : Sound (s .mode) t os m (s .«record»)
   sound-here = rw (sym table-whole) (ready .fits .sound)
 
   -- bytes are gathered
@@ -299,7 +303,7 @@ module _ (t w ps os : List ℕ) (m : Memory) (s : State) (piece : List ℕ) (fro
                 wide = still-wide here after out out′ (ready .fits .wide) size-after sized-after out-after;
                 begun = omega arith;
                 line = record { few = omega arith; no-end = λ i z. absurd (omega arith) };
-                sound = rw (table-after, h .memory, h .next, h .mode) (pays .sound);
+                sound = rw (table-after, h .owns-then, h .memory, h .next, h .mode) (pays .sound);
               };
               size = size-after;
             };
@@ -326,7 +330,7 @@ module _ (t w ps os : List ℕ) (m : Memory) (s : State) (piece : List ℕ) (fro
     rounds-owed (ended e k) turns q = rw (q, e) (ap (λ (l : List ℕ). l ++ onward s′ t 0 (s .line) r′ m′) (append-nil text))
     rounds-owed (full left e k few) turns q = rw (q, e) (append-assoc text (stepsTold (suc left) t r′ m′ .text) (onward s′ t 0 (s .line) (stepsTold (suc left) t r′ m′ .next) (stepsTold (suc left) t r′ m′ .memory)))
 
-  rounds-sound : {free : ℕ} {m′ : Memory} {r′ : Record} {mode : Mode} {rest : session.Told} → Rests t m′ r′ free mode rest → Sound mode t m′ r′
+  rounds-sound : {free : ℕ} {m′ : Memory} {r′ : Record} {mode : Mode} {rest : session.Told} → Rests t m′ r′ free mode rest → Sound mode t os m′ r′
   rounds-sound (ended e k) = k
   rounds-sound (full left e k few) = k
 
@@ -402,10 +406,10 @@ module _ (t w ps os : List ℕ) (m : Memory) (s : State) (piece : List ℕ) (fro
 -- ---- a call runs on a copy of the table's words
 module _ (words t w ps os : List ℕ) (m : Memory) (s : State) (out : List ℕ) (copy : t ≡ take 2657 words) where
   -- what the copy is refused by is what the call is
-  pub copy-number : Wide words w ps os m out → stateRefusal (desk words w ps os m s) out ≡ firstRefusal (settledNumbers s t w m)
-  copy-number wide = given-wide (desk words w ps os m s) out wide ∙ ap (λ (l : List ℕ). firstRefusal (settledNumbers s l w m)) (sym copy)
+  pub copy-number : Wide words w ps os m out → stateRefusal (desk words w ps os m s) out ≡ firstRefusal (settledNumbers s t w os m)
+  copy-number wide = given-wide (desk words w ps os m s) out wide ∙ ap (λ (l : List ℕ). firstRefusal (settledNumbers s l w os m)) (sym copy)
 
-  module _ (wide : Wide words w ps os m out) (judged : firstRefusal (settledNumbers s t w m) ≡ 0) where
+  module _ (wide : Wide words w ps os m out) (judged : firstRefusal (settledNumbers s t w os m) ≡ 0) where
     copy-size : length t ≡ 2657
     copy-size = ap length copy ∙ length-take-le 2657 words (wide .words-room)
 

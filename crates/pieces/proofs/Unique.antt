@@ -19,8 +19,7 @@ use Rattle.desk.specs.declared.State.{State}
 use Rattle.desk.specs.Desk.{Desk}
 use Rattle.desk.specs.Gathering.{Gathers}
 use Rattle.pieces.specs.declared.Fed.{Fed}
-use Rattle.pieces.specs.declared.Fed.the-variants.{Taken, Refused}
-use Rattle.pieces.specs.Feeding.{Feeds, FeedSays, takes, refuses}
+use Rattle.pieces.specs.Feeding.{fedTo, fedNothing, Feeds, FeedSays, takes, refuses}
 use Rattle.pieces.specs.Unique.{Lent, deskOf, FeedsOne}
 use Rattle.pieces.specs.Running.{Moment, silent, afterRounds, roundsThen, afterBytes, heardThen, afterLine, Goes, over, works, waits, hears, Runs, full, last, on}
 
@@ -176,25 +175,25 @@ lentOf d = record { words = d .words; window = d .window; parts = d .parts; part
 
 module _ {d : Desk} {piece : List ℕ} {from : ℕ} {out : List ℕ} {b c : Lent} {o o′ : List ℕ} where
   taken-one : {s s′ : State} {place place′ printed printed′ : ℕ} {more more′ : Bool} → Feeds d piece from out (deskOf b s) place printed more o
-      → Feeds d piece from out (deskOf c s′) place′ printed′ more′ o′ → found (Taken s place printed more) b o ≡ found (Taken s′ place′ printed′ more′) c o′
+      → Feeds d piece from out (deskOf c s′) place′ printed′ more′ o′ → found (fedTo s place printed more) b o ≡ found (fedTo s′ place′ printed′ more′) c o′
   taken-one f f′ =
       let e = runs-one (f .runs) (f′ .runs) in
       let m = e .moments in
       let words : b .words ≡ c .words =
       sym (take-append-drop 2657 (b .words)) ∙ (λ j. m j .here .words ++ (f .words-rest ∙ sym (f′ .words-rest)) j) ∙ take-append-drop 2657 (c .words) in
-      (λ j. found (Taken (m j .here .state) (m j .place) (m j .printed) (e .mores j))
+      (λ j. found (fedTo (m j .here .state) (m j .place) (m j .printed) (e .mores j))
       (record { words = words j; window = m j .here .window; parts = m j .here .parts; partOwns = m j .here .partOwns; memory = m j .here .memory }) (m j .out))
 
-refused-one : {d : Desk} {out : List ℕ} {b c : Lent} {o o′ : List ℕ} {q q′ : Refusal} → numberOf q ≡ numberOf q′ → deskOf b (d .state) ≡ d → o ≡ out
-    → deskOf c (d .state) ≡ d → o′ ≡ out → found (Refused q) b o ≡ found (Refused q′) c o′
-refused-one {q = q} {q′ = q′} n e f e′ f′ j = found (Refused (number-one q q′ n j)) (lentOf ((e ∙ sym e′) j)) ((f ∙ sym f′) j)
+refused-one : (d : Desk) (from : ℕ) {out : List ℕ} {b c : Lent} {o o′ : List ℕ} {q q′ : Refusal} → numberOf q ≡ numberOf q′ → deskOf b (d .state) ≡ d → o ≡ out
+    → deskOf c (d .state) ≡ d → o′ ≡ out → found (fedNothing (d .state) from q) b o ≡ found (fedNothing (d .state) from q′) c o′
+refused-one d from {q = q} {q′ = q′} n e f e′ f′ j = found (fedNothing (d .state) from (number-one q q′ n j)) (lentOf ((e ∙ sym e′) j)) ((f ∙ sym f′) j)
 
 says-one : {d : Desk} {piece : List ℕ} {from : ℕ} {out : List ℕ} {b c : Lent} {o o′ : List ℕ} {x y : Fed} → FeedSays d piece from out (deskOf b) o x
     → FeedSays d piece from out (deskOf c) o′ y → found x b o ≡ found y c o′
 says-one (takes z f g) (takes z′ f′ g′) = taken-one g g′
 says-one (takes z f g) (refuses {q = q} n e u) = let k = number-low q in absurd (omega arith)
 says-one (refuses {q = q} n e u) (takes z f g) = let k = number-low q in absurd (omega arith)
-says-one (refuses n e u) (refuses n′ e′ u′) = refused-one (sym n ∙ n′) e u e′ u′
+says-one {d = d} {from = from} (refuses n e u) (refuses n′ e′ u′) = refused-one d from (sym n ∙ n′) e u e′ u′
 
 pub feeds-one : FeedsOne
 feeds-one d piece from out = record { one = λ x y p q. says-one p q }

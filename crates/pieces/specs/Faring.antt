@@ -8,7 +8,7 @@ use lib.Seq.{sets}
 use Rattle.update.specs.Memories.{Memory}
 use Rattle.owing.specs.Laws.{listens}
 use Rattle.owing.specs.declared.Mode.{Mode}
-use Rattle.owing.specs.declared.Mode.the-variants.{Table, Command, Nodes, Working, Stopped}
+use Rattle.owing.specs.declared.Mode.the-variants.{Table, Command, Naming, Nodes, Working, Stopped}
 use Rattle.desk.specs.Desk.{Desk, Fits, owedFor}
 use Rattle.pieces.specs.Running.{moment, Goes}
 
@@ -40,6 +40,7 @@ pub record Fares (d : Desk) (piece : List ℕ) (from : ℕ) (out : List ℕ) (pr
 abbrev pub atWork : Mode → ℕ
 atWork (Table x) = 0
 atWork Command = 0
+atWork (Naming count taken command) = 0
 atWork (Nodes order count taken command) = 0
 atWork (Working turns) = 1
 atWork Stopped = 0

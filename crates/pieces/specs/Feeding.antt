@@ -6,6 +6,7 @@ use Prim.Native.Nat.{ℕ, _≤_, _<_}
 use lib.ListN.{length, drop}
 use lib.Seq.{sets}
 use Rattle.refusal.specs.declared.Refusal.{Refusal}
+use Rattle.refusal.specs.declared.Verdict.the-variants.{Sound, Refused}
 use Rattle.refusal.specs.Numbers.{numberOf}
 use Rattle.owing.specs.Laws.{listens}
 use Rattle.owing.specs.declared.Mode.the-variants.{Stopped}
@@ -14,7 +15,6 @@ use Rattle.desk.specs.Desk.{Desk, Fits, owedFor}
 use Rattle.desk.specs.Refusals.{stateRefusal}
 use Rattle.pieces.specs.Running.{momentOf, Runs}
 use Rattle.pieces.specs.declared.Fed.{Fed}
-use Rattle.pieces.specs.declared.Fed.the-variants.{Taken, Refused}
 
 -- ---- a call: from place `from` of the piece on
 
@@ -36,7 +36,14 @@ pub record Feeds (d : Desk) (piece : List ℕ) (from : ℕ) (out : List ℕ) (d�
   pub runs : Runs piece (momentOf d from out 0) (momentOf d′ place out′ printed) more
   pub words-rest : drop 2657 (d′ .words) ≡ drop 2657 (d .words)
 
+-- an answer, and one that refuses: the state and the place are then those that were given, and nothing is printed
+abbrev pub fedTo : State → ℕ → ℕ → Bool → Fed
+fedTo s place printed more = record { verdict = Sound; state = s; place = place; printed = printed; more = more }
+
+abbrev pub fedNothing : State → ℕ → Refusal → Fed
+fedNothing s from q = record { verdict = Refused q; state = s; place = from; printed = 0; more = false }
+
 -- the answer for any state and any memory: where it is no session's, that is refused by its number, and nothing is changed
 pub data FeedSays (d : Desk) (piece : List ℕ) (from : ℕ) (out : List ℕ) (d′ : State → Desk) (out′ : List ℕ) : Fed → Type 0 where
-  takes : {s : State} {place printed : ℕ} {more : Bool} → stateRefusal d out ≡ 0 → Fits d out → Feeds d piece from out (d′ s) place printed more out′ → FeedSays d piece from out d′ out′ (Taken s place printed more)
-  refuses : {q : Refusal} → stateRefusal d out ≡ numberOf q → d′ (d .state) ≡ d → out′ ≡ out → FeedSays d piece from out d′ out′ (Refused q)
+  takes : {s : State} {place printed : ℕ} {more : Bool} → stateRefusal d out ≡ 0 → Fits d out → Feeds d piece from out (d′ s) place printed more out′ → FeedSays d piece from out d′ out′ (fedTo s place printed more)
+  refuses : {q : Refusal} → stateRefusal d out ≡ numberOf q → d′ (d .state) ≡ d → out′ ≡ out → FeedSays d piece from out d′ out′ (fedNothing (d .state) from q)

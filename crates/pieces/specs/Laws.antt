@@ -26,7 +26,7 @@ pub record Starts (d : Desk) (out : List ℕ) : Type 0 where
 
 -- what the program begins with: the first state, zeroed memory that is just long enough, and a zeroed buffer to print into
 abbrev pub firstDesk : Desk
-firstDesk = desk (replicate 2657 0) (replicate 29 0) (replicate 513 0) (replicate 513 0) ownMemory firstState
+firstDesk = desk (replicate 2657 0) (replicate 29 0) (replicate 513 0) (replicate 521 0) ownMemory firstState
 
 unfoldable pub firstOut : List ℕ
 firstOut = replicate 131072 0

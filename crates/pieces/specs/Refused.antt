@@ -1,18 +1,16 @@
 -- "given exactly when": every number by which a call refuses the memory that it is lent. Assumes nothing.
 use mathlib.Core.List.{List}
 use Prim.Native.Nat.{ℕ}
-use Rattle.refusal.specs.Numbers.{numberOf}
+use Rattle.refusal.specs.Numbers.{verdictOf}
 use Rattle.desk.specs.declared.State.{State}
 use Rattle.desk.specs.Desk.{Desk}
 use Rattle.desk.specs.Refused.{StateGives}
 use Rattle.pieces.specs.declared.Fed.{Fed}
-use Rattle.pieces.specs.declared.Fed.the-variants.{Taken, Refused}
 use Rattle.pieces.specs.Feeding.{FeedSays}
 
 -- an answer as a number: 0 where nothing is refused
 abbrev pub fedNumber : Fed → ℕ
-fedNumber (Taken s place printed more) = 0
-fedNumber (Refused q) = numberOf q
+fedNumber fed = verdictOf (fed .verdict)
 
 -- a call gives each number exactly when its condition holds and none before it, and takes the text exactly where none does
 abbrev pub AllFeedGives : Type 0

@@ -9,7 +9,7 @@ use Rattle.frames.specs.Frames.{frameAt, lineAfter}
 use Rattle.owing.specs.Hearing.{Heard, hearing, Spacious}
 use Rattle.telling.specs.Telling.{Worked, stepsWithin}
 use Rattle.owing.specs.declared.Mode.{Mode}
-use Rattle.owing.specs.declared.Mode.the-variants.{Table, Command, Nodes, Working, Stopped}
+use Rattle.owing.specs.declared.Mode.the-variants.{Table, Command, Naming, Nodes, Working, Stopped}
 use Rattle.desk.specs.Desk.{Desk, desk, tableOf}
 use Rattle.desk.specs.Gathering.{Gathers}
 
@@ -65,6 +65,7 @@ module _ (p : Moment) where
 abbrev pub silent : Mode → Bool
 silent (Table x) = false
 silent Command = false
+silent (Naming count taken command) = false
 silent (Nodes order count taken command) = false
 silent (Working turns) = true
 silent Stopped = true

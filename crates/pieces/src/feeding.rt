@@ -27,7 +27,7 @@ ghost use Rattle.owing.specs.Owed.{Sound};
 ghost use Rattle.owing.specs.Hearing.{hearing, Hears, Spacious};
 ghost use Rattle.telling.specs.Telling.{RoundsTold};
 ghost use Rattle.desk.specs.Desk.{desk, Tests};
-ghost use Rattle.pieces.specs.Feeding.{Feeds, FeedSays};
+ghost use Rattle.pieces.specs.Feeding.{fedNothing, Feeds, FeedSays};
 ghost use Rattle.pieces.specs.Faring.{Ready, Turns};
 ghost use Rattle.pieces.specs.Running.{silent};
 
@@ -99,8 +99,8 @@ fn hear_line(
     out: &mut [u8],
     printed: usize,
 ) -> Told
-    requires { ⌜ (length (now table) ≡ 2657) × Sound (state .mode) (now table) (lent (now held) (now «held_owns») (now sets) (now before)) (state .«record») ⌝ }
-    requires { ⌜ (513 ≤ length (now parts)) × (513 ≤ length (now «part_owns»)) × Spacious (now out) printed ⌝ }
+    requires { ⌜ (length (now table) ≡ 2657) × Sound (state .mode) (now table) (now «part_owns») (lent (now held) (now «held_owns») (now sets) (now before)) (state .«record») ⌝ }
+    requires { ⌜ (513 ≤ length (now parts)) × (521 ≤ length (now «part_owns»)) × Spacious (now out) printed ⌝ }
     requires { ⌜ begun ≤ length (now window) ⌝ }
     ensures { λ r. ⌜ Hears (hearing (state .mode) (frameAt (take begun (now (window .entry))) 0 (state .line) .frame) (state .line) (now (table .entry)) (now (parts .entry)) (now («part_owns» .entry)) (lent (now (held .entry)) (now («held_owns» .entry)) (now (sets .entry)) (now (before .entry))) (state .«record»)) r printed (now (out .entry)) (now (out .exit)) (now (table .exit)) (now (parts .exit)) (now («part_owns» .exit)) (lent (now (held .exit)) (now («held_owns» .exit)) (now (sets .exit)) (now (before .exit))) ⌝ }
 {
@@ -335,6 +335,19 @@ fn feed_sound(
     }
 }
 
+// Nothing is taken.
+fn refuse(state: State, from: usize, refusal: Refusal) -> Fed
+    ensures { λ r. ⌜ r ≡ fedNothing state from refusal ⌝ }
+{
+    Fed {
+        verdict: Verdict::Refused(refusal),
+        state: state,
+        place: from,
+        printed: 0,
+        more: false,
+    }
+}
+
 // One call: as much of the piece as the room for printing allows.
 pub fn feed(
     state: State,
@@ -363,7 +376,7 @@ pub fn feed(
         &*before,
         &*out,
     ) {
-        return Fed::Refused(Refusal::Buffer);
+        return refuse(state, from, Refusal::Buffer);
     }
     let mut table = [0u64; 2657];
     copy_in(&*words, &mut table);
@@ -371,6 +384,7 @@ pub fn feed(
         &table,
         state,
         &*window,
+        &*part_owns,
         &*held,
         &*held_owns,
         &*sets,
@@ -393,13 +407,14 @@ pub fn feed(
             );
             copy_out(&table, words);
             let now = fed.state;
-            Fed::Taken {
+            Fed {
+                verdict: Verdict::Sound,
                 state: now,
                 place: fed.place,
                 printed: fed.printed,
                 more: fed.more,
             }
         }
-        Verdict::Refused(r) => Fed::Refused(r),
+        Verdict::Refused(r) => refuse(state, from, r),
     }
 }

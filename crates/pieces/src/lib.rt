@@ -3,15 +3,13 @@ mod feeding;
 
 use desk::State;
 pub use feeding::feed;
-use refusal::Refusal;
+use refusal::Verdict;
 
-// How far the piece was taken, and how many bytes are to be printed; or why the memory can't be a session's.
-pub enum Fed {
-    Taken {
-        state: State,
-        place: usize,
-        printed: usize,
-        more: bool,
-    },
-    Refused(Refusal),
+// How far the piece was taken, how many bytes are to be printed, and whether there is more to do; or why the memory can't be a session's, and then all is as it was.
+pub struct Fed {
+    pub verdict: Verdict,
+    pub state: State,
+    pub place: usize,
+    pub printed: usize,
+    pub more: bool,
 }

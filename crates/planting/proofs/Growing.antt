@@ -15,7 +15,7 @@ use Rattle.frames.specs.Frames.{frameAt}
 use Rattle.planting.specs.Planting.{Nodes, good, bad, before, nodeThen, nodesAt, loadThen, treeAt}
 use Rattle.planting.specs.Growing.{treeAnswer, stray, Stored}
 use Rattle.frames.specs.declared.Frame.{Frame}
-use Rattle.frames.specs.declared.Frame.the-variants.{Header, Symbol, Production, Equation, Node, Load, Replace, Dump, Refused, Over}
+use Rattle.frames.specs.declared.Frame.the-variants.{Header, Symbol, Production, Equation, Node, Load, Replace, Dump, Corrections, Correction, Refused, Over}
 use Rattle.frames.specs.declared.Step.{Step}
 use Rattle.planting.specs.declared.ReadTree.{ReadTree}
 use Rattle.planting.specs.declared.ReadTree.the-variants.{Read, Refused as ReadRefused}
@@ -24,7 +24,7 @@ use Rattle.planting.proofs.Trees.{nodes-forth}
 
 -- ---- frames of another type, by their tags
 
-pub no-refusal : (f : Frame) (line : ℕ) → OneOf (0 ∷ 1 ∷ 2 ∷ 3 ∷ 4 ∷ 5 ∷ 6 ∷ 7 ∷ 9 ∷ []) (tagOf F.the-type f) → ReadRefused why.Frame line ≡ treeAnswer (stray f line)
+pub no-refusal : (f : Frame) (line : ℕ) → OneOf (0 ∷ 1 ∷ 2 ∷ 3 ∷ 4 ∷ 5 ∷ 6 ∷ 7 ∷ 8 ∷ 9 ∷ 11 ∷ []) (tagOf F.the-type f) → ReadRefused why.Frame line ≡ treeAnswer (stray f line)
 no-refusal (Header a b) line k = refl
 no-refusal (Symbol a b) line k = refl
 no-refusal (Production a b c) line k = refl
@@ -33,30 +33,36 @@ no-refusal (Node a b) line k = refl
 no-refusal (Load a) line k = refl
 no-refusal (Replace a b) line k = refl
 no-refusal Dump line k = refl
-no-refusal (Refused a b) line k = absurd (miss (0 ∷ 1 ∷ 2 ∷ 3 ∷ 4 ∷ 5 ∷ 6 ∷ 7 ∷ 9 ∷ []) 8 tt k)
+no-refusal (Corrections a) line k = refl
+no-refusal (Correction a b) line k = refl
+no-refusal (Refused a b) line k = absurd (miss (0 ∷ 1 ∷ 2 ∷ 3 ∷ 4 ∷ 5 ∷ 6 ∷ 7 ∷ 8 ∷ 9 ∷ 11 ∷ []) 10 tt k)
 no-refusal Over line k = refl
 
-no-node : (f : Frame) (line : ℕ) (rest : Nodes) → OneOf (0 ∷ 1 ∷ 2 ∷ 3 ∷ 5 ∷ 6 ∷ 7 ∷ 8 ∷ 9 ∷ []) (tagOf F.the-type f) → nodeThen f line rest ≡ stray f line
+no-node : (f : Frame) (line : ℕ) (rest : Nodes) → OneOf (0 ∷ 1 ∷ 2 ∷ 3 ∷ 5 ∷ 6 ∷ 7 ∷ 8 ∷ 9 ∷ 10 ∷ 11 ∷ []) (tagOf F.the-type f) → nodeThen f line rest ≡ stray f line
 no-node (Header a b) line rest k = refl
 no-node (Symbol a b) line rest k = refl
 no-node (Production a b c) line rest k = refl
 no-node (Equation a b c d) line rest k = refl
-no-node (Node a b) line rest k = absurd (miss (0 ∷ 1 ∷ 2 ∷ 3 ∷ 5 ∷ 6 ∷ 7 ∷ 8 ∷ 9 ∷ []) 4 tt k)
+no-node (Node a b) line rest k = absurd (miss (0 ∷ 1 ∷ 2 ∷ 3 ∷ 5 ∷ 6 ∷ 7 ∷ 8 ∷ 9 ∷ 10 ∷ 11 ∷ []) 4 tt k)
 no-node (Load a) line rest k = refl
 no-node (Replace a b) line rest k = refl
 no-node Dump line rest k = refl
+no-node (Corrections a) line rest k = refl
+no-node (Correction a b) line rest k = refl
 no-node (Refused a b) line rest k = refl
 no-node Over line rest k = refl
 
-no-load : (f : Frame) (line : ℕ) (rest : ℕ → Nodes) → OneOf (0 ∷ 1 ∷ 2 ∷ 3 ∷ 4 ∷ 6 ∷ 7 ∷ 8 ∷ 9 ∷ []) (tagOf F.the-type f) → loadThen f line rest ≡ stray f line
+no-load : (f : Frame) (line : ℕ) (rest : ℕ → Nodes) → OneOf (0 ∷ 1 ∷ 2 ∷ 3 ∷ 4 ∷ 6 ∷ 7 ∷ 8 ∷ 9 ∷ 10 ∷ 11 ∷ []) (tagOf F.the-type f) → loadThen f line rest ≡ stray f line
 no-load (Header a b) line rest k = refl
 no-load (Symbol a b) line rest k = refl
 no-load (Production a b c) line rest k = refl
 no-load (Equation a b c d) line rest k = refl
 no-load (Node a b) line rest k = refl
-no-load (Load a) line rest k = absurd (miss (0 ∷ 1 ∷ 2 ∷ 3 ∷ 4 ∷ 6 ∷ 7 ∷ 8 ∷ 9 ∷ []) 5 tt k)
+no-load (Load a) line rest k = absurd (miss (0 ∷ 1 ∷ 2 ∷ 3 ∷ 4 ∷ 6 ∷ 7 ∷ 8 ∷ 9 ∷ 10 ∷ 11 ∷ []) 5 tt k)
 no-load (Replace a b) line rest k = refl
 no-load Dump line rest k = refl
+no-load (Corrections a) line rest k = refl
+no-load (Correction a b) line rest k = refl
 no-load (Refused a b) line rest k = refl
 no-load Over line rest k = refl
 
@@ -75,6 +81,8 @@ strayed (Node a b) line = record { refusal = why.Frame; at = line; is = refl }
 strayed (Load a) line = record { refusal = why.Frame; at = line; is = refl }
 strayed (Replace a b) line = record { refusal = why.Frame; at = line; is = refl }
 strayed Dump line = record { refusal = why.Frame; at = line; is = refl }
+strayed (Corrections a) line = record { refusal = why.Frame; at = line; is = refl }
+strayed (Correction a b) line = record { refusal = why.Frame; at = line; is = refl }
 strayed (Refused r l) line = record { refusal = r; at = l; is = refl }
 strayed Over line = record { refusal = why.Frame; at = line; is = refl }
 
@@ -163,7 +171,7 @@ module _ (s : List ℕ) (count place line : ℕ) (a₀ b₀ : List ℕ) where
           ap (λ (m : ℕ). nodesAt m s at l) z ∙ ap (λ (x : Step). nodeThen (x .frame) l (nodesAt (count - (i + 1)) s (x .place) (x .line))) (sym found)
 
       -- a line that is no node's
-      pub onward-stop : OneOf (0 ∷ 1 ∷ 2 ∷ 3 ∷ 5 ∷ 6 ∷ 7 ∷ 8 ∷ 9 ∷ []) (tagOf F.the-type (r .frame)) → (x : ReadTree) → x ≡ treeAnswer (stray (r .frame) l)
+      pub onward-stop : OneOf (0 ∷ 1 ∷ 2 ∷ 3 ∷ 5 ∷ 6 ∷ 7 ∷ 8 ∷ 9 ∷ 10 ∷ 11 ∷ []) (tagOf F.the-type (r .frame)) → (x : ReadTree) → x ≡ treeAnswer (stray (r .frame) l)
           → (x ≡ treeAnswer all) × Stored all a₀ b₀ a b
       onward-stop q x e =
           let w = strayed (r .frame) l in
@@ -194,7 +202,7 @@ module _ (s : List ℕ) (place line : ℕ) (r : Step) (found : r ≡ frameAt s p
   pub load-lines : (n : ℕ) → r .frame ≡ Load n → treeAt s place line ≡ nodesAt n s (r .place) (r .line)
   load-lines n e = by-load ∙ ap (λ (f : Frame). loadThen f line (λ m. nodesAt m s (r .place) (r .line))) e
 
-  pub load-stray : OneOf (0 ∷ 1 ∷ 2 ∷ 3 ∷ 4 ∷ 6 ∷ 7 ∷ 8 ∷ 9 ∷ []) (tagOf F.the-type (r .frame)) → (x : ReadTree) → x ≡ treeAnswer (stray (r .frame) line) → (a b a′ b′ : List ℕ)
+  pub load-stray : OneOf (0 ∷ 1 ∷ 2 ∷ 3 ∷ 4 ∷ 6 ∷ 7 ∷ 8 ∷ 9 ∷ 10 ∷ 11 ∷ []) (tagOf F.the-type (r .frame)) → (x : ReadTree) → x ≡ treeAnswer (stray (r .frame) line) → (a b a′ b′ : List ℕ)
       → (x ≡ treeAnswer (treeAt s place line)) × Stored (treeAt s place line) a b a′ b′
   load-stray q x e a b a′ b′ =
       let w = strayed (r .frame) line in

@@ -8,7 +8,7 @@ use Rattle.refusal.specs.declared.Refusal.{Refusal}
 use Rattle.refusal.specs.declared.Refusal.the-variants as why
 use Rattle.lines.specs.Exactly.{NoLine}
 use Rattle.frames.specs.Frames.{lineAfter, frameAt}
-use Rattle.frames.specs.Exactly.{Fields, header, symbol, production, equation, node as is-node, load as is-load, replace, dump, IsFrame, Astray}
+use Rattle.frames.specs.Exactly.{Fields, header, symbol, production, equation, node as is-node, load as is-load, replace, dump, corrections, correction, IsFrame, Astray}
 use Rattle.frames.specs.declared.Step.{Step}
 use Rattle.frames.specs.declared.Frame.{Frame}
 use Rattle.frames.specs.declared.Frame.the-variants.{Node, Load}
@@ -30,6 +30,8 @@ node-stray (strange is-node h) rest = absurd (h refl)
 node-stray (strange is-load h) rest = refl
 node-stray (strange replace h) rest = refl
 node-stray (strange dump h) rest = refl
+node-stray (strange corrections h) rest = refl
+node-stray (strange correction h) rest = refl
 
 -- and than a load's
 load-stray : {line : ℕ} {f : Frame} → Stray line 6 f → (rest : ℕ → Nodes) → loadThen f line rest ≡ bad why.Frame line
@@ -43,6 +45,8 @@ load-stray (strange is-node h) rest = refl
 load-stray (strange is-load h) rest = absurd (h refl)
 load-stray (strange replace h) rest = refl
 load-stray (strange dump h) rest = refl
+load-stray (strange corrections h) rest = refl
+load-stray (strange correction h) rest = refl
 
 -- a frame of type 5 is a node of 20 digits, and one of type 6 a load of 6
 record IsNode (s : List ℕ) (place : ℕ) : Type 0 where
@@ -64,6 +68,8 @@ module _ {s : List ℕ} {place : ℕ} where
   a-node e is-load w = absurd (omega arith)
   a-node e replace w = absurd (omega arith)
   a-node e dump w = absurd (omega arith)
+  a-node e corrections w = absurd (omega arith)
+  a-node e correction w = absurd (omega arith)
 
   a-load : {f : Frame} {type n : ℕ} → type ≡ 6 → Fields s place f type n → IsFrame s place f type n → IsLoad s place
   a-load e header w = absurd (omega arith)
@@ -74,6 +80,8 @@ module _ {s : List ℕ} {place : ℕ} where
   a-load e is-load w = record { count = _; frame = w }
   a-load e replace w = absurd (omega arith)
   a-load e dump w = absurd (omega arith)
+  a-load e corrections w = absurd (omega arith)
+  a-load e correction w = absurd (omega arith)
 
 module _ (s : List ℕ) where
   -- ---- one line of several nodes'

@@ -32,6 +32,8 @@ by-number why.Buffer = refl
 by-number why.Absent = refl
 by-number why.Idle = refl
 by-number why.Waiver = refl
+by-number why.Points = refl
+by-number why.Overlap = refl
 
 -- all 17, by computation
 all-numbered : (i : ℕ) → i < 17 → not (eqb (numberOf (refusalOf (suc i))) (suc i)) ≡ false

@@ -95,7 +95,7 @@ pub not-found : (x : Nodes) (r : Refusal) (line : ℕ) → treeAnswer x ≡ Refu
 not-found (good ps owns p l) r line e = absurd (let z : _≡_ {A = ℕ} 0 1 = cc in omega arith)
 not-found (bad q l) r line e = let u : q ≡ r = cc in let v : l ≡ line = cc in cc
 
-even : (ps owns : List ℕ) → AllFit ps owns → length ps ≡ length owns
+pub even : (ps owns : List ℕ) → AllFit ps owns → length ps ≡ length owns
 even [] [] f = refl
 even [] (o ∷ owns) f = absurd f
 even (p ∷ ps) [] f = absurd f

@@ -13,7 +13,7 @@ use Rattle.lines.specs.Text.{lineAt}
 use Rattle.lines.specs.declared.Line.{Line}
 use Rattle.lines.specs.declared.Line.the-variants.{Digits, Bad, End}
 use Rattle.lines.proofs.Values.{num-small}
-use Rattle.frames.specs.Frames.{wrongLength, headerOf, symbolOf, productionOf, equationOf, nodeOf, loadOf, replaceOf, dumpOf, kindOf, frameOf, stepOf, frameAt, lineAfter}
+use Rattle.frames.specs.Frames.{wrongLength, headerOf, symbolOf, productionOf, equationOf, nodeOf, loadOf, replaceOf, dumpOf, correctionsOf, correctionOf, kindOf, frameOf, stepOf, frameAt, lineAfter}
 use Rattle.frames.specs.Text.{textOf}
 use Rattle.planting.specs.Text.{nodesText, treeText}
 use Rattle.planting.specs.Planting.{Nodes, good, bad, before, nodeThen, nodesAt, loadThen, treeAt}
@@ -21,7 +21,7 @@ use Rattle.frames.specs.Laws.{shifted, Fits, Forth, linesAfter}
 use Rattle.planting.specs.Laws.{AllFit, TreeBack, TreeForth, TreeForthAll}
 use Rattle.frames.specs.declared.Step.{Step}
 use Rattle.frames.specs.declared.Frame.{Frame}
-use Rattle.frames.specs.declared.Frame.the-variants.{Header, Symbol, Production, Equation, Node, Load, Replace, Dump, Refused, Over}
+use Rattle.frames.specs.declared.Frame.the-variants.{Header, Symbol, Production, Equation, Node, Load, Replace, Dump, Corrections, Correction, Refused, Over}
 use Rattle.frames.proofs.Back.{frame-behind, frame-back}
 use Rattle.frames.proofs.Forth.{frame-forth}
 use Rattle.frames.proofs.Bounds.{Bounded, bounded}
@@ -99,6 +99,8 @@ first-node (Node p o) line rest ps owns end next e = node-first p o rest ps owns
 first-node (Load a) line rest ps owns end next e = absurd (let z : _≡_ {A = ℕ} 0 1 = cc in omega arith)
 first-node (Replace a b) line rest ps owns end next e = absurd (let z : _≡_ {A = ℕ} 0 1 = cc in omega arith)
 first-node Dump line rest ps owns end next e = absurd (let z : _≡_ {A = ℕ} 0 1 = cc in omega arith)
+first-node (Corrections a) line rest ps owns end next e = absurd (let z : _≡_ {A = ℕ} 0 1 = cc in omega arith)
+first-node (Correction a b) line rest ps owns end next e = absurd (let z : _≡_ {A = ℕ} 0 1 = cc in omega arith)
 first-node (Refused a b) line rest ps owns end next e = absurd (let z : _≡_ {A = ℕ} 0 1 = cc in omega arith)
 first-node Over line rest ps owns end next e = absurd (let z : _≡_ {A = ℕ} 0 1 = cc in omega arith)
 
@@ -158,6 +160,8 @@ first-load s place line (Node a b) ps owns end next h e = absurd (let z : _≡_ 
 first-load s place line (Load n) ps owns end next h e = record { n = n; load = h; nodes = e }
 first-load s place line (Replace a b) ps owns end next h e = absurd (let z : _≡_ {A = ℕ} 0 1 = cc in omega arith)
 first-load s place line Dump ps owns end next h e = absurd (let z : _≡_ {A = ℕ} 0 1 = cc in omega arith)
+first-load s place line (Corrections a) ps owns end next h e = absurd (let z : _≡_ {A = ℕ} 0 1 = cc in omega arith)
+first-load s place line (Correction a b) ps owns end next h e = absurd (let z : _≡_ {A = ℕ} 0 1 = cc in omega arith)
 first-load s place line (Refused a b) ps owns end next h e = absurd (let z : _≡_ {A = ℕ} 0 1 = cc in omega arith)
 first-load s place line Over ps owns end next h e = absurd (let z : _≡_ {A = ℕ} 0 1 = cc in omega arith)
 

@@ -5,7 +5,7 @@ use Rattle.refusal.specs.declared.Refusal.{Refusal}
 use Rattle.refusal.specs.declared.Refusal.the-variants as why
 use Rattle.frames.specs.Frames.{frameAt}
 use Rattle.frames.specs.declared.Frame.{Frame}
-use Rattle.frames.specs.declared.Frame.the-variants.{Header, Symbol, Production, Equation, Node, Load, Replace, Dump, Refused, Over}
+use Rattle.frames.specs.declared.Frame.the-variants.{Header, Symbol, Production, Equation, Node, Load, Replace, Dump, Corrections, Correction, Refused, Over}
 
 -- nodes, and where the text behind them starts; or the first line that is no node's
 pub data Nodes : Type 0 where
@@ -26,6 +26,8 @@ nodeThen (Node p o) line rest = before p o rest
 nodeThen (Load a) line rest = bad why.Frame line
 nodeThen (Replace a b) line rest = bad why.Frame line
 nodeThen Dump line rest = bad why.Frame line
+nodeThen (Corrections a) line rest = bad why.Frame line
+nodeThen (Correction a b) line rest = bad why.Frame line
 nodeThen (Refused refusal own) line rest = bad refusal own
 nodeThen Over line rest = bad why.Frame line
 
@@ -44,6 +46,8 @@ loadThen (Node a b) line rest = bad why.Frame line
 loadThen (Load n) line rest = rest n
 loadThen (Replace a b) line rest = bad why.Frame line
 loadThen Dump line rest = bad why.Frame line
+loadThen (Corrections a) line rest = bad why.Frame line
+loadThen (Correction a b) line rest = bad why.Frame line
 loadThen (Refused refusal own) line rest = bad refusal own
 loadThen Over line rest = bad why.Frame line
 

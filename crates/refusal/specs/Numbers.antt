@@ -1,8 +1,8 @@
--- The number of each refusal, as the table "Refusal numbers" of document 01 gives it, and request 2026-06 the last. Assumes nothing.
+-- The number of each refusal, as the table "Refusal numbers" of document 01 gives it, and the requests the last: 2026-06 one, 2026-07 two. Assumes nothing.
 use mathlib.Core.Path.{_≡_}
 use Prim.Native.Nat.{ℕ}
 use Rattle.refusal.specs.declared.Refusal.{Refusal}
-use Rattle.refusal.specs.declared.Refusal.the-variants.{Count, Symbol, Start, Form, Argument, Production, Shape, Size, Point, Busy, Fields, Undeclared, Line, Frame, Buffer, Absent, Idle, Waiver}
+use Rattle.refusal.specs.declared.Refusal.the-variants.{Count, Symbol, Start, Form, Argument, Production, Shape, Size, Point, Busy, Fields, Undeclared, Line, Frame, Buffer, Absent, Idle, Waiver, Points, Overlap}
 use Rattle.refusal.specs.declared.Verdict.{Verdict}
 use Rattle.refusal.specs.declared.Verdict.the-variants.{Sound, Refused}
 
@@ -25,6 +25,8 @@ numberOf Buffer = 15
 numberOf Absent = 16
 numberOf Idle = 17
 numberOf Waiver = 21
+numberOf Points = 22
+numberOf Overlap = 23
 
 -- a verdict as a number: 0 where nothing is refused
 abbrev pub verdictOf : Verdict → ℕ

@@ -38,6 +38,10 @@ pub enum Refusal {
     Idle,
     // 21: a waiver inside a circle
     Waiver,
+    // 22: several corrections at no point, or at more than 8
+    Points,
+    // 23: points out of order, or one inside another's old part
+    Overlap,
 }
 
 // What a checker answers.
@@ -68,5 +72,7 @@ pub fn number(refusal: Refusal) -> u8
         Refusal::Absent => 16,
         Refusal::Idle => 17,
         Refusal::Waiver => 21,
+        Refusal::Points => 22,
+        Refusal::Overlap => 23,
     }
 }

@@ -1,3 +1,4 @@
+pub mod Points
 pub mod Looking
 pub mod Rounding
 pub mod Counting

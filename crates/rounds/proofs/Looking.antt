@@ -1,13 +1,13 @@
--- Sown, due and the first due circle, as the loops over the arrays find them. Assumes nothing.
+-- Due and the first due circle, as the loops over the arrays find them. Assumes nothing.
 use mathlib.Core.Path.{_≡_, refl, sym, ap, _∙_}
 use mathlib.Core.Bool.{Bool, true, false, cond, not, _&&_, _||_, or-true, or-false}
 use mathlib.Core.List.{List, [], _∷_, List·Memᴰ·head, List·Memᴰ·tail}
-use Prim.Native.Nat.{ℕ, zero, suc, _+_, _-_, _/_, _%_, _≤_, _<_}
+use Prim.Native.Nat.{ℕ, zero, suc, _+_, _-_, _≤_, _<_}
 use native.Mathlib.Nat.{le-of-lt}
 use native.Mathlib.Numerals.{add-one}
 use native.Mathlib.Omega.{arith}
 use lib.Dec.{eqb, ltb}
-use borrow.Author.Tests.{eq-eqb, ne-eqb, lt-ltb, le-ltb, ltb-true}
+use borrow.Author.Tests.{eq-eqb, ltb-true}
 use lib.ListN.{length, getD, take}
 use lib.Seq.{slice, slice-cons, slice-empty, length-slice, getD-drop, getD-take}
 use Rattle.circles.specs.Graph.{_∈_}
@@ -21,30 +21,9 @@ use Rattle.climb.specs.Wired.{Span}
 use Rattle.climb.proofs.Lists.{and-is, any-cong}
 use Rattle.climb.proofs.Places.{default-is}
 use Rattle.update.specs.declared.Record.{Record}
-use Rattle.update.specs.Records.{isLoad}
-use Rattle.update.specs.Memories.{belowPoint}
 use Rattle.update.specs.Steps.{sownOf, dueFrom}
 use Rattle.rounds.specs.Arranged.{Arranged}
 use Rattle.rounds.specs.Tests.{movedIn, dueIn, dueAt, reading}
-
--- ---- sown
-
-module _ (r : Record) (x : ℕ) where
-  pub sown-load : isLoad (r .«open») ≡ true → true ≡ sownOf r x
-  unfolding sownOf
-  sown-load h = rw h
-
-  pub sown-point : isLoad (r .«open») ≡ false → x / 8 ≡ r .point → ltb (x % 8) 4 ≡ sownOf r x
-  unfolding sownOf belowPoint
-  sown-point h e = rw (h, eq-eqb (x / 8) (r .point) e, le-ltb (r .point) (x / 8) (omega arith)) (sym (or-false (ltb (x % 8) 4)))
-
-  pub sown-part : isLoad (r .«open») ≡ false → (x / 8 ≡ r .point → ⊥) → r .point < x / 8 → ltb (x / 8) (r .point + r .part) ≡ sownOf r x
-  unfolding sownOf belowPoint
-  sown-part h n l = rw (h, ne-eqb (x / 8) (r .point) n, lt-ltb (r .point) (x / 8) l)
-
-  pub sown-before : isLoad (r .«open») ≡ false → (x / 8 ≡ r .point → ⊥) → x / 8 ≤ r .point → false ≡ sownOf r x
-  unfolding sownOf belowPoint
-  sown-before h n l = rw (h, ne-eqb (x / 8) (r .point) n, le-ltb (r .point) (x / 8) l)
 
 -- ---- the arguments of x
 

@@ -1,6 +1,7 @@
 // The surviving instances whose set differs from before.
 use super::due::is_load;
 use super::due::wide;
+use tree::Point;
 use update::Record;
 ghost use mathlib.Core.Path.{_≡_};
 ghost use mathlib.Core.Bool.{not};
@@ -8,20 +9,50 @@ ghost use Prim.Native.Nat.{_<_, _≤_};
 ghost use lib.Dec.{eqb};
 ghost use lib.ListN.{length};
 ghost use Rattle.climb.specs.Memory.{at};
+ghost use Rattle.tree.specs.Points.{isOld, survivesAt};
+ghost use Rattle.update.specs.Records.{pointsOf};
 ghost use Rattle.update.specs.Within.{WithinLimits};
 ghost use Rattle.update.specs.Steps.{survives, changedOf};
 ghost use Rattle.rounds.specs.Tests.{countedIn, oneIf, reading};
 
-// Whether the update left the node of x in the tree.
+// Whether the point leaves the node in the tree: its new part stands below it.
+fn spares(q: Point, node: usize) -> bool
+    requires { ⌜ (q .node ≤ 512) × (q .count ≤ 512) ⌝ }
+    ensures { λ s. ⌜ s ≡ survivesAt q node ⌝ }
+{
+    if node <= q.node {
+        return true;
+    }
+    q.node + q.count <= node
+}
+
+// Whether all of the update's points leave it there.
+fn all_spare(r: Record, node: usize) -> bool
+    requires { ⌜ WithinLimits r ⌝ }
+    ensures { λ s. ⌜ s ≡ isOld (pointsOf r) node ⌝ }
+{
+    let mut at = 0;
+    while at < r.count {
+        let q = r.points[at];
+        if !spares(q, node) {
+            return false;
+        }
+        at += 1;
+    }
+    true
+}
+
+// Whether the update left the node of x in the tree. A sole point is taken by itself, as in `sown`.
 fn survived(r: Record, x: usize) -> bool
     requires { ⌜ WithinLimits r ⌝ }
     ensures { λ s. ⌜ s ≡ survives r x ⌝ }
 {
     let node = x / 8;
-    if node <= r.point {
-        return true;
+    if r.count == 1 {
+        let q = r.points[0];
+        return spares(q, node);
     }
-    r.point + r.part <= node
+    all_spare(r, node)
 }
 
 fn differs<'a>(before: &'a [u64], sets: &'a [u64], x: usize) -> u64

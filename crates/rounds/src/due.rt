@@ -1,4 +1,5 @@
 // The first due circle.
+use tree::Point;
 use update::Open;
 use update::Record;
 ghost use mathlib.Core.Path.{_≡_};
@@ -11,7 +12,9 @@ ghost use Rattle.circles.specs.Arrays.{given};
 ghost use Rattle.circles.specs.Ranked.{anyOf};
 ghost use Rattle.climb.specs.Memory.{at};
 ghost use Rattle.climb.specs.Wired.{Span};
-ghost use Rattle.update.specs.Records.{isLoad};
+ghost use Rattle.wire.specs.Points.{sownAt};
+ghost use Rattle.wire.specs.Replaced.{sownBy};
+ghost use Rattle.update.specs.Records.{isLoad, pointsOf};
 ghost use Rattle.update.specs.Within.{WithinLimits};
 ghost use Rattle.update.specs.Steps.{sownOf, dueFrom};
 ghost use Rattle.rounds.specs.Arranged.{circlesIn, Circles, Looks};
@@ -33,7 +36,38 @@ pub fn is_load(o: Open) -> bool
     }
 }
 
-// Whether the update has sown the instance x.
+// Whether the point sows the instance x: its own synthesized sets and all sets below it.
+fn sows(q: Point, x: usize) -> bool
+    requires { ⌜ (q .node ≤ 512) × (q .count ≤ 512) ⌝ }
+    ensures { λ s. ⌜ s ≡ sownBy (q .node) (q .count) x ⌝ }
+{
+    let node = x / 8;
+    if node == q.node {
+        return x % 8 < 4;
+    }
+    if q.node < node {
+        return node < q.node + q.count;
+    }
+    false
+}
+
+// Whether one of the update's points sows it.
+fn some_sows(r: Record, x: usize) -> bool
+    requires { ⌜ WithinLimits r ⌝ }
+    ensures { λ s. ⌜ s ≡ sownAt (pointsOf r) x ⌝ }
+{
+    let mut at = 0;
+    while at < r.count {
+        let q = r.points[at];
+        if sows(q, x) {
+            return true;
+        }
+        at += 1;
+    }
+    false
+}
+
+// Whether the update has sown it: a load has sown all. To look its points up the record is copied, so a sole point is taken by itself.
 fn sown(r: Record, x: usize) -> bool
     requires { ⌜ WithinLimits r ⌝ }
     ensures { λ s. ⌜ s ≡ sownOf r x ⌝ }
@@ -42,14 +76,11 @@ fn sown(r: Record, x: usize) -> bool
     if is_load(o) {
         return true;
     }
-    let node = x / 8;
-    if node == r.point {
-        return x % 8 < 4;
+    if r.count == 1 {
+        let q = r.points[0];
+        return sows(q, x);
     }
-    if r.point < node {
-        return node < r.point + r.part;
-    }
-    false
+    some_sows(r, x)
 }
 
 // Whether the argument y is there, lies outside the circle with this least instance and has changed.

@@ -35,6 +35,7 @@ pub fn next_record(r: Record, i: usize, k: u64, size: usize, closed: bool) -> Re
     ensures { λ d. ⌜ d ≡ roundRecord r i k size closed ⌝ }
 {
     let o = r.open;
+    let points = r.points;
     let e = capped(r.evaluations + size as u64, 1073745920);
     if closed {
         let c = capped(r.circles + 1, 4092);
@@ -42,8 +43,8 @@ pub fn next_record(r: Record, i: usize, k: u64, size: usize, closed: bool) -> Re
             held: r.held,
             open: o,
             nodes: r.nodes,
-            point: r.point,
-            part: r.part,
+            count: r.count,
+            points: points,
             rank: i + 1,
             round: 0,
             circles: c,
@@ -54,8 +55,8 @@ pub fn next_record(r: Record, i: usize, k: u64, size: usize, closed: bool) -> Re
         held: r.held,
         open: o,
         nodes: r.nodes,
-        point: r.point,
-        part: r.part,
+        count: r.count,
+        points: points,
         rank: i,
         round: k,
         circles: r.circles,

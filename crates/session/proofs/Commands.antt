@@ -5,6 +5,10 @@ use mathlib.Core.List.{List, map}
 use Prim.Native.Nat.{ℕ, zero, suc, _+_, _*_, _≤_, _<_}
 use native.Mathlib.Omega.{arith}
 use lib.ListN.{length}
+use Rattle.refusal.specs.declared.Refusal.{Refusal}
+use Rattle.tree.specs.declared.Point.{Point}
+use Rattle.tree.specs.Points.{Part, nodesRow, ownsRow}
+use Rattle.tree.specs.Handed.{announced}
 use Rattle.circles.specs.Ranked.{member, upFrom}
 use Rattle.circles.specs.Laws.{Rising}
 use Rattle.circles.proofs.Sequence.{rising-keep}
@@ -12,14 +16,14 @@ use Rattle.climb.specs.Memory.{at}
 use Rattle.climb.proofs.Lists.{keep-is, keep-in, in-upFrom}
 use Rattle.wire.specs.Instances.{declared}
 use Rattle.wire.specs.Laws.{Words}
-use Rattle.wire.specs.Replaced.{nodesAfter, ownsAfter}
 use Rattle.wire.proofs.Places.{declared-below}
 use Rattle.update.specs.declared.Record.{Record}
 use Rattle.update.specs.Records.{emptyRecord}
 use Rattle.update.specs.Memories.{Memory, nodesOf}
-use Rattle.update.specs.Refusals.{loadRefusal, replaceRefusal}
+use Rattle.update.specs.Refusals.{loadRefusal, pointsRefusal}
 use Rattle.update.specs.Refused.{Leaves}
-use Rattle.update.specs.Calls.{Said, refused, said, Left, leaving, Opened, is-open, loadCall, replaceCall, dumped}
+use Rattle.update.specs.Calls.{Said, refused, said, Left, leaving, Opened, is-open, loadCall, pointsCall, dumped}
+use Rattle.update.specs.Points.{WordsIn}
 use Rattle.update.proofs.Refusing.{all-leave}
 use Rattle.demands.specs.Engine.{ours}
 use Rattle.demands.specs.History.{History}
@@ -27,7 +31,7 @@ use Rattle.demands.proofs.Ours.{ours-2}
 use Rattle.frames.specs.Frames.{frameAt}
 use Rattle.frames.specs.Out.{dumpText, refusalText}
 use Rattle.frames.specs.declared.Frame.{Frame}
-use Rattle.frames.specs.declared.Frame.the-variants.{Header, Symbol, Production, Equation, Node, Load, Replace, Dump, Refused, Over}
+use Rattle.frames.specs.declared.Frame.the-variants.{Header, Symbol, Production, Equation, Node, Load, Replace, Dump, Corrections, Correction, Refused, Over}
 use Rattle.texts.specs.Read.{typeOf}
 use Rattle.texts.specs.Reading as table
 use Rattle.texts.specs.Reading.{Reading, readingAt}
@@ -37,10 +41,12 @@ use Rattle.texts.proofs.Passing.{frame-on, none-left}
 use Rattle.planting.specs.Planting.{Nodes, good, bad, nodesAt}
 use Rattle.planting.proofs.Trees.{nodes-forth}
 use Rattle.session.specs.Session.{Told, toDone, openedThen, dumpOr, dumpTold, andOn, withNodes, command, commandsFrom, ownMemory, afterTable, session}
+use Rattle.session.specs.Naming.{Named, named, unnamed, pointsAt}
 use Rattle.session.specs.Lines.{SetsText}
-use Rattle.session.specs.Commands.{TreeHeld, no-tree, tree, Between, at-first, behind-history, LoadNumber, ReplaceNumber, absent, CommandAt, Command, load-refused, loads, replacement-refused, replaces, dump-refused, dumps, outOfPlace, over, bad-line, misplaced, bad-load, bad-replacement, Commands, stops, goes-on, Session, no-table, runs, EverySession}
+use Rattle.session.specs.Commands.{TreeHeld, no-tree, tree, Between, at-first, behind-history, LoadNumber, ReplaceNumber, miscounted, absent, CommandAt, RowAt, one, several, RowStops, at-point, at-node, Command, load-refused, loads, replacement-refused, replaces, dump-refused, dumps, outOfPlace, over, bad-line, misplaced, bad-load, bad-replacement, Commands, stops, goes-on, Session, no-table, runs, EverySession}
 use Rattle.session.proofs.Reading.{TableKept, table-kept, words-fit}
 use Rattle.session.proofs.Resting.{finished-state, Kept, keeps, rests, load-number, replace-number, dumpNumber, dump-number}
+use Rattle.session.proofs.Rows.{row-behind, row-here, row-stops}
 use Rattle.session.proofs.Updates.{answered, load-carried, replacement-carried}
 
 -- ---- a dump
@@ -81,8 +87,9 @@ opens {left = left} l = let c = l .carried refl in answered left (said is-open) 
     only : (a : Opened) → a ≡ is-open
     only is-open = refl
 
-never-absent : {t new newOwns : List ℕ} {point n : ℕ} → ReplaceNumber t point new newOwns no-tree n → n ≡ 16
-never-absent absent = refl
+never-absent : {t : List ℕ} {ps : List Part} {n : ℕ} → ReplaceNumber t ps no-tree n → 0 < n
+never-absent (miscounted c) = omega arith
+never-absent (absent c) = omega arith
 
 -- ---- the nodes of a load or a replacement stand behind its frame, and their own sets are words
 
@@ -108,18 +115,14 @@ load-accepted {t = t} {ns} {owns} {r = r} {m} w o c num e =
     let d = load-carried t ns owns r _ m _ w o e in
     record { then = tree ns owns; does = loads c num (d .done) (d .text); between = behind-history (d .done .history) }
 
-replacement-accepted : {s t new newOwns : List ℕ} {point place line place′ line′ : ℕ} {h : TreeHeld} {r : Record} {m : Memory} → Between t h r m → Words newOwns
-    → CommandAt s place line (Replace point) (good new newOwns place′ line′) → ReplaceNumber t point new newOwns h 0
-    → replaceCall t m r point new newOwns ≡ leaving is-open (replaceCall t m r point new newOwns .next) (replaceCall t m r point new newOwns .memory)
-    → Accepted s t place line h r m (replaceCall t m r point new newOwns) place′ line′
+replacement-accepted : {s t : List ℕ} {ps : List Part} {place line place′ line′ : ℕ} {h : TreeHeld} {r : Record} {m : Memory} → Between t h r m → WordsIn ps
+    → RowAt s place line ps place′ line′ → ReplaceNumber t ps h 0
+    → pointsCall t m r ps ≡ leaving is-open (pointsCall t m r ps .next) (pointsCall t m r ps .memory)
+    → Accepted s t place line h r m (pointsCall t m r ps) place′ line′
 replacement-accepted at-first o c num e = absurd (let z = never-absent num in omega arith)
-replacement-accepted {t = t} {new} {newOwns} {point} {r = r} {m} (behind-history {ns = ns} {owns} a) o c num e =
-    let d = replacement-carried t ns owns r _ m _ a point new newOwns o e in
-    record {
-      then = tree (nodesAfter t ns new point) (ownsAfter t ns owns newOwns point);
-      does = replaces point c num (d .done) (d .text);
-      between = behind-history (d .done .history);
-    }
+replacement-accepted {t = t} {ps} {r = r} {m} (behind-history {ns = ns} {owns} a) o c num e =
+    let d = replacement-carried t ns owns r _ m _ a ps o e in
+    record { then = tree (nodesRow t ns ps) (ownsRow t ns owns ps); does = replaces c num (d .done) (d .text); between = behind-history (d .done .history) }
 
 -- ---- the commands: n of them at the most, as many as there are bytes left
 
@@ -156,13 +159,23 @@ module _ (s t : List ℕ) (q : TableKept t) where
         by-number (loadCall t m r ns owns) place′ line′ (f .1) (loadRefusal t m r ns owns) (all-leave t m r .load ns owns) (load-refused c num)
         (λ z e. load-accepted (q .words) (f .0) c (subst (LoadNumber t ns owns) z num) e)
 
-    replace-runs : (point : ℕ) (new newOwns : List ℕ) (place′ line′ : ℕ) → CommandAt s place line (Replace point) (good new newOwns place′ line′)
-        → Commands s t place line h r m (andOn (openedThen line t (replaceCall t m r point new newOwns)) place′ line′ go)
-    replace-runs point new newOwns place′ line′ c =
-        let num = replace-number b (q .sound) point new newOwns in
-        let f = nodes-behind c (rw (c .frame) (omega arith)) in
-        by-number (replaceCall t m r point new newOwns) place′ line′ (f .1) (replaceRefusal t m r point new newOwns) (all-leave t m r .replace point new newOwns)
-        (replacement-refused point c num) (λ z e. replacement-accepted b (f .0) c (subst (ReplaceNumber t point new newOwns h) z num) e)
+    -- a replacement is told as the call for its parts, whichever frame brought them
+    row-runs : (ps : List Part) (place′ line′ : ℕ) → RowAt s place line ps place′ line′
+        → Commands s t place line h r m (command s t (frameAt s place line .frame) line (frameAt s place line .place) (frameAt s place line .line) r m go)
+    row-runs ps place′ line′ c =
+        let num = replace-number b (q .sound) ps in
+        let f = row-behind c in
+        subst (Commands s t place line h r m) (sym (row-here t r m go c))
+        (by-number (pointsCall t m r ps) place′ line′ (f .1) (pointsRefusal t m r ps) (all-leave t m r .points ps)
+        (replacement-refused c num) (λ z e. replacement-accepted b (f .0) c (subst (ReplaceNumber t ps h) z num) e))
+
+    row-bad : (refusal : Refusal) (at : ℕ) → RowStops s place line refusal at
+        → Commands s t place line h r m (command s t (frameAt s place line .frame) line (frameAt s place line .place) (frameAt s place line .line) r m go)
+    row-bad refusal at c = subst (Commands s t place line h r m) (row-stops t r m go c) (stops (bad-replacement c))
+
+    -- by the frame of the line, as the frame is
+    abbrev By : Frame → Type 0
+    By f = Commands s t place line h r m (command s t f line (frameAt s place line .place) (frameAt s place line .line) r m go)
 
     load-lines : (count : ℕ) → frameAt s place line .frame ≡ Load count → (x : Nodes) → nodesAt count s (frameAt s place line .place) (frameAt s place line .line) ≡ x
         → Commands s t place line h r m (withNodes x (λ ps os. openedThen line t (loadCall t m r ps os)) go)
@@ -170,10 +183,20 @@ module _ (s t : List ℕ) (q : TableKept t) where
     load-lines count e (bad refusal at) f = stops (bad-load (record { count = count; frame = e; found = f }))
 
     replace-lines : (point count : ℕ) → frameAt s place line .frame ≡ Replace point count → (x : Nodes)
-        → nodesAt count s (frameAt s place line .place) (frameAt s place line .line) ≡ x
-        → Commands s t place line h r m (withNodes x (λ ps os. openedThen line t (replaceCall t m r point ps os)) go)
-    replace-lines point count e (good ns owns place′ line′) f = replace-runs point ns owns place′ line′ (record { count = count; frame = e; found = f })
-    replace-lines point count e (bad refusal at) f = stops (bad-replacement point (record { count = count; frame = e; found = f }))
+        → nodesAt count s (frameAt s place line .place) (frameAt s place line .line) ≡ x → By (Replace point count)
+    replace-lines point count e (good ns owns place′ line′) f = subst By e (row-runs _ place′ line′ (one point (record { count = count; frame = e; found = f })))
+    replace-lines point count e (bad refusal at) f = subst By e (row-bad refusal at (one point (record { count = count; frame = e; found = f })))
+
+    part-lines : (count : ℕ) → frameAt s place line .frame ≡ Corrections count → (qs : List Point) (place₁ line₁ : ℕ)
+        → pointsAt count s (frameAt s place line .place) (frameAt s place line .line) ≡ named qs place₁ line₁
+        → (x : Nodes) → nodesAt (announced qs) s place₁ line₁ ≡ x → By (Corrections count)
+    part-lines count e qs place₁ line₁ f (good ns owns place′ line′) g = subst By e (row-runs _ place′ line′ (several e f g))
+    part-lines count e qs place₁ line₁ f (bad refusal at) g = subst By e (row-bad refusal at (at-node e f g))
+
+    point-lines : (count : ℕ) → frameAt s place line .frame ≡ Corrections count → (x : Named)
+        → pointsAt count s (frameAt s place line .place) (frameAt s place line .line) ≡ x → By (Corrections count)
+    point-lines count e (named qs place₁ line₁) f = part-lines count e qs place₁ line₁ f (nodesAt (announced qs) s place₁ line₁) refl
+    point-lines count e (unnamed refusal at) f = subst By e (row-bad refusal at (at-point e f))
 
     dump-runs : frameAt s place line .frame ≡ Dump
         → Command s t place line h r m (dumpTold line t r m .text) (frameAt s place line .place) (frameAt s place line .line) h r m
@@ -190,7 +213,7 @@ module _ (s t : List ℕ) (q : TableKept t) where
     stray e = stops (misplaced e)
 
     -- by the frame of the line
-    by-frame : (f : Frame) → frameAt s place line .frame ≡ f → Commands s t place line h r m (command s t f line (frameAt s place line .place) (frameAt s place line .line) r m go)
+    by-frame : (f : Frame) → frameAt s place line .frame ≡ f → By f
     unfolding dumpTold
     by-frame (Header a c) e = stray (rw e)
     by-frame (Symbol a c) e = stray (rw e)
@@ -199,6 +222,8 @@ module _ (s t : List ℕ) (q : TableKept t) where
     by-frame (Node a c) e = stray (rw e)
     by-frame (Load count) e = load-lines count e (nodesAt count s (frameAt s place line .place) (frameAt s place line .line)) refl
     by-frame (Replace point count) e = replace-lines point count e (nodesAt count s (frameAt s place line .place) (frameAt s place line .line)) refl
+    by-frame (Corrections count) e = point-lines count e (pointsAt count s (frameAt s place line .place) (frameAt s place line .line)) refl
+    by-frame (Correction a c) e = stray (rw e)
     by-frame Dump e = on (dumpTold line t r m) h (frameAt s place line .place) (frameAt s place line .line) (dump-runs e) b (frame-on s place line (rw e (omega arith)))
     by-frame (Refused refusal at) e = stops (bad-line e)
     by-frame Over e = stops (over e)

@@ -1,18 +1,20 @@
 -- No text but what the definition of a session computes is one. Assumes nothing.
 use mathlib.Core.Path.{_≡_, refl, sym, ap, _∙_, subst}
 use mathlib.Core.Bool.{true, false, true≢false}
+use mathlib.Core.Logic.{inl, inr}
 use mathlib.Core.List.{List, _++_}
 use Prim.Native.Nat.{ℕ, zero, suc, _+_, _≤_, _<_}
 use native.Mathlib.Omega.{arith}
 use lib.ListN.{length}
+use Rattle.tree.specs.declared.Point.{Point}
+use Rattle.tree.specs.Points.{Part, nodesRow, ownsRow, pointsRow}
 use Rattle.climb.specs.System.{Assignment, graphOf}
 use Rattle.wire.specs.Instances.{system}
-use Rattle.wire.specs.Replaced.{nodesAfter, ownsAfter}
 use Rattle.update.specs.declared.Record.{Record}
 use Rattle.update.specs.Records.{emptyRecord}
 use Rattle.update.specs.Memories.{Memory}
-use Rattle.update.specs.Refused.{Leaves}
-use Rattle.update.specs.Calls.{Said, Left, leaving, Opened, is-open, loadCall, replaceCall}
+use Rattle.update.specs.Refused.{Leaves, Miscounted, Counted, Missing, Present}
+use Rattle.update.specs.Calls.{Said, Left, leaving, Opened, is-open, loadCall, pointsCall}
 use Rattle.update.proofs.Refusing.{all-leave}
 use Rattle.demands.specs.Asked.{newRule, surviving, valueBefore}
 use Rattle.demands.proofs.Updating.{one-least}
@@ -20,7 +22,7 @@ use Rattle.demands.proofs.Circles.{one-by-rank}
 use Rattle.frames.specs.Frames.{frameAt}
 use Rattle.frames.specs.Out.{refusalText}
 use Rattle.frames.specs.declared.Frame.{Frame}
-use Rattle.frames.specs.declared.Frame.the-variants.{Header, Symbol, Production, Equation, Node, Load, Replace, Dump, Refused, Over}
+use Rattle.frames.specs.declared.Frame.the-variants.{Header, Symbol, Production, Equation, Node, Load, Replace, Dump, Corrections, Correction, Refused, Over}
 use Rattle.texts.specs.Reading as table
 use Rattle.texts.specs.Reading.{Reading, readingAt}
 use Rattle.texts.specs.Refused.{TableRead}
@@ -29,10 +31,11 @@ use Rattle.texts.proofs.Passing.{frame-on, none-left}
 use Rattle.planting.specs.Planting.{good}
 use Rattle.session.specs.Session.{Told, openedThen, toDone, dumpTold, andOn, command, commandsFrom, ownMemory, afterTable, session}
 use Rattle.session.specs.Lines.{LoadText, ReplacementText, UpdateText, SetsText}
-use Rattle.session.specs.Commands.{TreeHeld, no-tree, tree, Between, at-first, behind-history, TreeNumber, misshapen, waived, sound, LoadNumber, ReplaceNumber, too-many, judged, absent, outside, CommandAt, Command, load-refused, loads, replacement-refused, replaces, dump-refused, dumps, outOfPlace, Stops, over, bad-line, misplaced, bad-load, bad-replacement, Commands, stops, goes-on, no-table, runs, OnlySession}
+use Rattle.session.specs.Commands.{TreeHeld, no-tree, tree, Between, at-first, behind-history, TreeNumber, misshapen, waived, sound, LoadNumber, ReplaceNumber, miscounted, too-many, judged, absent, outside, meeting, CommandAt, Command, load-refused, loads, replacement-refused, replaces, dump-refused, dumps, outOfPlace, Stops, over, bad-line, misplaced, bad-load, bad-replacement, Commands, stops, goes-on, no-table, runs, OnlySession}
 use Rattle.session.proofs.Reading.{TableKept, table-kept}
 use Rattle.session.proofs.Resting.{rests, load-number, replace-number, dump-number}
 use Rattle.session.proofs.Updates.{load-carried, replacement-carried}
+use Rattle.session.proofs.Rows.{row-behind, row-here, row-stops}
 use Rattle.session.proofs.Texts.{one-update, one-dump}
 use Rattle.session.proofs.Commands.{opens, nodes-behind, sets-text}
 
@@ -55,17 +58,43 @@ one-load (too-many h) (judged k e) = absurd (omega arith)
 one-load (judged h e) (too-many k) = absurd (omega arith)
 one-load (judged h e) (judged k f) = one-tree e f
 
-one-replacement : {t new newOwns : List ℕ} {point a b : ℕ} {h : TreeHeld} → ReplaceNumber t point new newOwns h a → ReplaceNumber t point new newOwns h b → a ≡ b
-one-replacement absent absent = refl
-one-replacement (outside h) (outside k) = refl
-one-replacement (outside h) (too-many k l) = absurd (omega arith)
-one-replacement (outside h) (judged k l e) = absurd (omega arith)
-one-replacement (too-many h i) (outside k) = absurd (omega arith)
-one-replacement (too-many h i) (too-many k l) = refl
-one-replacement (too-many h i) (judged k l e) = absurd (omega arith)
-one-replacement (judged h i e) (outside k) = absurd (omega arith)
-one-replacement (judged h i e) (too-many k l) = absurd (omega arith)
-one-replacement (judged h i e) (judged k l f) = one-tree e f
+-- the tests of the points shut each other out
+uncounted : (ps : List Part) → Miscounted ps → Counted ps → ⊥
+uncounted ps (inl e) c = omega (arith, c .0)
+uncounted ps (inr l) c = omega (arith, c .1)
+
+unmissed : (nodes : ℕ) (ps : List Part) → Missing nodes ps → Present nodes ps → ⊥
+unmissed nodes ps m p = omega (arith, p (m .0) (m .1), m .2)
+
+one-replacement : {t : List ℕ} (ps : List Part) {a b : ℕ} {h : TreeHeld} → ReplaceNumber t ps h a → ReplaceNumber t ps h b → a ≡ b
+one-replacement ps (miscounted c) (miscounted d) = refl
+one-replacement ps (miscounted c) (absent d) = absurd (uncounted ps c d)
+one-replacement ps (miscounted c) (outside d k) = absurd (uncounted ps c d)
+one-replacement ps (miscounted c) (meeting d p o) = absurd (uncounted ps c d)
+one-replacement ps (miscounted c) (too-many d p o l) = absurd (uncounted ps c d)
+one-replacement ps (miscounted c) (judged d p o l e) = absurd (uncounted ps c d)
+one-replacement ps (absent c) (miscounted d) = absurd (uncounted ps d c)
+one-replacement ps (absent c) (absent d) = refl
+one-replacement ps (outside c k) (miscounted d) = absurd (uncounted ps d c)
+one-replacement ps (outside c k) (outside d j) = refl
+one-replacement ps (outside c k) (meeting d p o) = absurd (unmissed _ ps k p)
+one-replacement ps (outside c k) (too-many d p o l) = absurd (unmissed _ ps k p)
+one-replacement ps (outside c k) (judged d p o l e) = absurd (unmissed _ ps k p)
+one-replacement ps (meeting c p o) (miscounted d) = absurd (uncounted ps d c)
+one-replacement ps (meeting c p o) (outside d k) = absurd (unmissed _ ps k p)
+one-replacement ps (meeting c p o) (meeting d q x) = refl
+one-replacement ps (meeting c p o) (too-many d q x l) = absurd (x o)
+one-replacement ps (meeting c p o) (judged d q x l e) = absurd (x o)
+one-replacement ps (too-many c p o l) (miscounted d) = absurd (uncounted ps d c)
+one-replacement ps (too-many c p o l) (outside d k) = absurd (unmissed _ ps k p)
+one-replacement ps (too-many c p o l) (meeting d q x) = absurd (o x)
+one-replacement ps (too-many c p o l) (too-many d q x k) = refl
+one-replacement ps (too-many c p o l) (judged d q x k e) = absurd (omega arith)
+one-replacement ps (judged c p o l e) (miscounted d) = absurd (uncounted ps d c)
+one-replacement ps (judged c p o l e) (outside d k) = absurd (unmissed _ ps k p)
+one-replacement ps (judged c p o l e) (meeting d q x) = absurd (o x)
+one-replacement ps (judged c p o l e) (too-many d q x k) = absurd (omega arith)
+one-replacement ps (judged c p o l e) (judged d q x k f) = one-tree e f
 
 -- ---- a call by its number, as it is told
 
@@ -91,6 +120,8 @@ misplaced-prints s t (Node a b) line place next r m go e = refl
 misplaced-prints s t (Load a) line place next r m go e = absurd (true≢false (sym e))
 misplaced-prints s t (Replace a b) line place next r m go e = absurd (true≢false (sym e))
 misplaced-prints s t Dump line place next r m go e = absurd (true≢false (sym e))
+misplaced-prints s t (Corrections a) line place next r m go e = absurd (true≢false (sym e))
+misplaced-prints s t (Correction a b) line place next r m go e = refl
 misplaced-prints s t (Refused a b) line place next r m go e = absurd (true≢false (sym e))
 misplaced-prints s t Over line place next r m go e = absurd (true≢false (sym e))
 
@@ -116,14 +147,10 @@ module _ (s t : List ℕ) (q : TableKept t) where
     stop-only (bad-line e) = rw e
     stop-only (misplaced e) = misplaced-prints s t (frameAt s place line .frame) line (frameAt s place line .place) (frameAt s place line .line) r m go e
     stop-only (bad-load c) = rw (c .frame, c .found)
-    stop-only (bad-replacement point c) = rw (c .frame, c .found)
+    stop-only (bad-replacement c) = row-stops t r m go c
 
     load-here : {ns owns : List ℕ} {place′ line′ : ℕ} → CommandAt s place line Load (good ns owns place′ line′) → told-here ≡ andOn (openedThen line t (loadCall t m r ns owns)) place′ line′ go
     load-here c = rw (c .frame, c .found)
-
-    replacement-here : {point : ℕ} {ns owns : List ℕ} {place′ line′ : ℕ} → CommandAt s place line (Replace point) (good ns owns place′ line′)
-        → told-here ≡ andOn (openedThen line t (replaceCall t m r point ns owns)) place′ line′ go
-    replacement-here c = rw (c .frame, c .found)
 
     dump-here : frameAt s place line .frame ≡ Dump → told-here ≡ dumpTold line t r m .text ++ go (frameAt s place line .place) (frameAt s place line .line) r m
     unfolding dumpTold
@@ -142,14 +169,14 @@ module _ (s t : List ℕ) (q : TableKept t) where
   load-only : (ns owns : List ℕ) {a b : List ℕ} → LoadText t ns owns a → LoadText t ns owns b → a ≡ b
   load-only ns owns p told = one-update (system t ns owns) (λ x. true) (λ x. false) (λ x. 0) (one-by-rank (graphOf (system t ns owns))) p told
 
-  replacement-only : {ns owns new newOwns a b : List ℕ} {point : ℕ}
-      → ReplacementText t ns owns point new newOwns a → ReplacementText t ns owns point new newOwns b → a ≡ b
-  replacement-only {ns} {owns} {new} {newOwns} {a} {b} {point} p told =
-      let ns′ : List ℕ = nodesAfter t ns new point in
-      let S = system t ns′ (ownsAfter t ns owns newOwns point) in
+  replacement-only : {ns owns a b : List ℕ} {ps : List Part} → ReplacementText t ns owns ps a → ReplacementText t ns owns ps b → a ≡ b
+  replacement-only {ns} {owns} {a} {b} {ps} p told =
+      let ns′ : List ℕ = nodesRow t ns ps in
+      let qs : List Point = pointsRow t ns ps in
+      let S = system t ns′ (ownsRow t ns owns ps) in
       let e : p .old ≡ told .old = one-least (system t ns owns) (p .old) (told .old) (p .least) (told .least) in
-      let u = subst (λ (v : Assignment). UpdateText S (newRule t ns′ point (length new)) (surviving point (length new)) (valueBefore t ns new point v) a) e (p .update) in
-      one-update S (newRule t ns′ point (length new)) (surviving point (length new)) (valueBefore t ns new point (told .old)) (one-by-rank (graphOf S)) u (told .update)
+      let u = subst (λ (v : Assignment). UpdateText S (newRule t ns′ qs) (surviving qs) (valueBefore t ns ps v) a) e (p .update) in
+      one-update S (newRule t ns′ qs) (surviving qs) (valueBefore t ns ps (told .old)) (one-by-rank (graphOf S)) u (told .update)
 
   none-dumped : {r : Record} {m : Memory} (line : ℕ) → Between t no-tree r m → dumpTold line t r m .text ≡ refusalText 16 line
   unfolding dumpTold
@@ -172,18 +199,17 @@ module _ (s t : List ℕ) (q : TableKept t) where
       let d = load-carried t ns owns r _ m _ (q .words) (f .0) (o .0) in
       told-on place line r m go place′ line′ (o .1) (load-only ns owns text (d .text)) (on _ _ (behind-history (d .done .history)) (f .1))
       ∙ sym (load-here place line r m go c)
-  command-only {place} {line} {place′} {line′} {r = r} {m = m} go (replacement-refused {new = new} {newOwns} point c num some) b on =
-      let e = one-replacement (replace-number b (q .sound) point new newOwns) num in
-      let f = nodes-behind c (rw (c .frame) (omega arith)) in
-      told-on place line r m go place′ line′ (told-refused t line (all-leave t m r .replace point new newOwns) e some) refl (on r m b (f .1))
-      ∙ sym (replacement-here place line r m go c)
-  command-only {place} {line} {place′} {line′} {r = r} {m = m} go (replaces {ns = ns} {owns} {new} {newOwns} point c num done text) (behind-history a) on =
-      let e = one-replacement (replace-number (behind-history a) (q .sound) point new newOwns) num in
-      let f = nodes-behind c (rw (c .frame) (omega arith)) in
-      let o = told-opened t line (all-leave t m r .replace point new newOwns) e in
-      let d = replacement-carried t ns owns r _ m _ a point new newOwns (f .0) (o .0) in
+  command-only {place} {line} {place′} {line′} {r = r} {m = m} go (replacement-refused {ps = ps} c num some) b on =
+      let e = one-replacement ps (replace-number b (q .sound) ps) num in
+      told-on place line r m go place′ line′ (told-refused t line (all-leave t m r .points ps) e some) refl (on r m b (row-behind c .1))
+      ∙ sym (row-here t r m go c)
+  command-only {place} {line} {place′} {line′} {r = r} {m = m} go (replaces {ns = ns} {owns} {ps = ps} c num done text) (behind-history a) on =
+      let e = one-replacement ps (replace-number (behind-history a) (q .sound) ps) num in
+      let f = row-behind c in
+      let o = told-opened t line (all-leave t m r .points ps) e in
+      let d = replacement-carried t ns owns r _ m _ a ps (f .0) (o .0) in
       told-on place line r m go place′ line′ (o .1) (replacement-only text (d .text)) (on _ _ (behind-history (d .done .history)) (f .1))
-      ∙ sym (replacement-here place line r m go c)
+      ∙ sym (row-here t r m go c)
   command-only {place} {line} {r = r} {m = m} go (dump-refused e) b on =
       let g = on r m b (frame-on s place line (rw e (omega arith))) in
       rw (dump-here place line r m go e, none-dumped line b, g)

@@ -12,7 +12,7 @@ use Rattle.frames.specs.Frames.{lineAfter}
 use Rattle.frames.specs.Exactly.{IsFrame, frame}
 use Rattle.frames.specs.declared.Step.{Step}
 use Rattle.frames.specs.declared.Frame.{Frame}
-use Rattle.frames.specs.declared.Frame.the-variants.{Header, Symbol, Production, Equation, Node, Load, Replace, Dump, Refused, Over}
+use Rattle.frames.specs.declared.Frame.the-variants.{Header, Symbol, Production, Equation, Node, Load, Replace, Dump, Corrections, Correction, Refused, Over}
 use Rattle.frames.specs.declared.Expected.{Expected}
 use Rattle.frames.specs.declared.Expected.the-variants.{AtHeader, AtSymbol, AtProduction, AtEquation, Ended}
 use Rattle.frames.proofs.Bounds.{Bounded, bounded}
@@ -43,6 +43,8 @@ word-small (Node a b) h = lit< tt
 word-small (Load a) h = lit< tt
 word-small (Replace a b) h = lit< tt
 word-small Dump h = lit< tt
+word-small (Corrections a) h = lit< tt
+word-small (Correction a b) h = lit< tt
 word-small (Refused a b) h = lit< tt
 word-small Over h = lit< tt
 
@@ -56,6 +58,8 @@ constant-small (Node a b) h = lit< tt
 constant-small (Load a) h = lit< tt
 constant-small (Replace a b) h = lit< tt
 constant-small Dump h = lit< tt
+constant-small (Corrections a) h = lit< tt
+constant-small (Correction a b) h = lit< tt
 constant-small (Refused a b) h = lit< tt
 constant-small Over h = lit< tt
 

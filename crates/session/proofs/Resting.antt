@@ -5,31 +5,33 @@ use mathlib.Core.Logic.{⊎-elim}
 use mathlib.Core.List.{List, [], _∷_}
 use Prim.Native.Nat.{ℕ, zero, suc, _+_, _-_, _≤_, _<_}
 use native.Mathlib.Omega.{arith}
-use borrow.Author.Tests.{lt-ltb, le-ltb, le-leb, lt-leb}
-use lib.ListN.{length, getD, length-replicate}
+use borrow.Author.Tests.{lt-ltb, le-ltb}
+use lib.Dec.{ltb}
+use lib.ListN.{length, length-replicate}
 use Rattle.lines.proofs.Values.{lt-or-ge}
 use Rattle.table.specs.First.{first}
-use Rattle.table.specs.Words.{leftOf}
 use Rattle.table.specs.Judge.{judgeTable}
-use Rattle.tree.specs.Replace.{part}
 use Rattle.tree.specs.Tree.{judgeNodes, judgeTree}
-use Rattle.tree.proofs.Replace.{replacement}
+use Rattle.tree.specs.Points.{Part, nodesRow, leavingRow, comingRow, overlaps}
+use Rattle.tree.proofs.Points.{all-rows}
 use Rattle.climb.proofs.Lists.{either}
-use Rattle.wire.specs.Replaced.{nodesAfter}
 use Rattle.wire.specs.Waivers.{waives}
 use Rattle.wire.proofs.Waivers.{every-tree-waives}
 use Rattle.update.specs.declared.Record.{Record}
 use Rattle.update.specs.Records.{isOpen, beyond, shut, emptyRecord}
 use Rattle.update.specs.Memories.{Memory, nodesOf}
-use Rattle.update.specs.Refusals.{firstRefusal, when, short, heldRefusal, loadRefusal, passes, replaceRefusal, lookRefusals}
+use Rattle.update.specs.Refusals as tests
+use Rattle.update.specs.Refusals.{firstRefusal, when, short, heldRefusal, loadRefusal, missing, nodesLeft, partsRefusal, pointsRefusal, lookRefusals}
+use Rattle.update.specs.Refused.{Counted}
 use Rattle.update.proofs.Within.{short-means, all-shut}
 use Rattle.update.proofs.Ready.{tree-sound}
+use Rattle.update.proofs.Asking.{miscounted-means, counted-means, missing-means, present-means, overlap-means, apart-means, tests-row}
 use Rattle.demands.specs.Engine.{ours}
 use Rattle.demands.specs.History.{History}
 use Rattle.demands.specs.Demands.{FinishedState}
 use Rattle.demands.proofs.Ours.{ours-2}
 use Rattle.session.specs.Session.{ownMemory}
-use Rattle.session.specs.Commands.{TreeHeld, no-tree, tree, Between, at-first, behind-history, TreeNumber, misshapen, waived, sound, LoadNumber, ReplaceNumber, too-many, judged, absent, outside}
+use Rattle.session.specs.Commands.{TreeHeld, no-tree, tree, Between, at-first, behind-history, TreeNumber, misshapen, waived, sound, LoadNumber, ReplaceNumber, miscounted, too-many, judged, absent, outside, meeting}
 
 -- ---- behind a history
 
@@ -101,22 +103,37 @@ module _ (t : List ℕ) {r : Record} {m : Memory} (i : Idle r m) (table : judgeT
       (λ (h : length ns ≤ 512). rw (le-ltb 512 (length ns) h) (judged h (tree-number t ns table (judgeTree t ns owns 0) (tree-sound t ns owns 0))))
       (lt-or-ge 512 (length ns)))
 
-  replace-absent : r .held ≡ false → (point : ℕ) (new newOwns : List ℕ) → replaceRefusal t m r point new newOwns ≡ 16
-  unfolding replaceRefusal first
-  replace-absent held point new newOwns = rw (i .long, table, i .within, i .idle, held)
+  replace-miscounted : {h : TreeHeld} (ps : List Part) → tests.miscounted ps ≡ true → ReplaceNumber t ps h (pointsRefusal t m r ps)
+  unfolding pointsRefusal first
+  replace-miscounted ps c = rw (i .long, table, i .within, i .idle, c) (miscounted (miscounted-means ps .0 c))
 
-  replace-held : {ns owns : List ℕ} → Kept t ns owns r m → (point : ℕ) (new newOwns : List ℕ)
-      → ReplaceNumber t point new newOwns (tree ns owns) (replaceRefusal t m r point new newOwns)
-  unfolding replaceRefusal passes first
-  replace-held {ns} k point new newOwns =
-      let left : ℕ = length ns - part t ns point + length new in
-      let symbol : ℕ = leftOf t (getD ns point 0) in
-      rw (i .long, table, i .within, i .idle, k .held, k .sound, k .count, k .nodes) (⊎-elim
-      (λ (h : point < length ns). rw (lt-leb (length ns) point h) (⊎-elim
-      (λ (l : 512 < left). rw (lt-ltb 512 left l) (too-many h l))
-      (λ (l : left ≤ 512). rw (le-ltb 512 left l) (judged h l (tree-number t (nodesAfter t ns new point) table (judgeTree t new newOwns symbol)
-      (λ e. replacement t ns new 0 point (k .shape) h (tree-sound t new newOwns symbol e) .sound)))) (lt-or-ge 512 left)))
-      (λ (h : length ns ≤ point). rw (le-leb (length ns) point h) (outside h)) (lt-or-ge point (length ns)))
+  replace-absent : r .held ≡ false → (ps : List Part) → tests.miscounted ps ≡ false → ReplaceNumber t ps no-tree (pointsRefusal t m r ps)
+  unfolding pointsRefusal first
+  replace-absent held ps c = rw (i .long, table, i .within, i .idle, c, held) (absent (counted-means ps .0 c))
+
+  -- points that are in the tree and lie apart
+  replace-placed : {ns owns : List ℕ} → Kept t ns owns r m → (ps : List Part) → Counted ps → missing (length ns) ps ≡ false → overlaps t ns 0 ps ≡ false
+      → ReplaceNumber t ps (tree ns owns) (firstRefusal (when (ltb 512 (length ns - leavingRow t ns ps + comingRow ps)) 8 ∷ partsRefusal t ns ps ∷ when (waives t (nodesRow t ns ps)) 21 ∷ []))
+  unfolding first
+  replace-placed {ns} k ps c a o =
+      let left : ℕ = length ns - leavingRow t ns ps + comingRow ps in
+      let there = present-means (length ns) ps .0 a in
+      let apart = apart-means t ns ps there .0 o in
+      ⊎-elim
+      (λ (l : 512 < left). rw (lt-ltb 512 left l) (too-many c there apart l))
+      (λ (l : left ≤ 512). rw (le-ltb 512 left l) (judged c there apart l (tree-number t (nodesRow t ns ps) table (partsRefusal t ns ps)
+      (λ e. all-rows t ns 0 0 ps (k .shape) (tests-row t ns 0 ps a o e) .sound)))) (lt-or-ge 512 left)
+
+  replace-held : {ns owns : List ℕ} → Kept t ns owns r m → (ps : List Part) → tests.miscounted ps ≡ false → ReplaceNumber t ps (tree ns owns) (pointsRefusal t m r ps)
+  unfolding pointsRefusal nodesLeft first
+  replace-held {ns} k ps c =
+      let d = counted-means ps .0 c in
+      rw (i .long, table, i .within, i .idle, c, k .held, k .sound, k .count, k .nodes) (⊎-elim
+      (λ (a : missing (length ns) ps ≡ true). rw a (outside d (missing-means (length ns) ps .0 a)))
+      (λ (a : missing (length ns) ps ≡ false). let there = present-means (length ns) ps .0 a in rw a (⊎-elim
+      (λ (o : overlaps t ns 0 ps ≡ true). rw o (meeting d there (overlap-means t ns ps there .0 o)))
+      (λ (o : overlaps t ns 0 ps ≡ false). rw o (replace-placed k ps d a o)) (either (overlaps t ns 0 ps))))
+      (either (missing (length ns) ps)))
 
   dump-absent : r .held ≡ false → firstRefusal (lookRefusals t m r 0) ≡ 16
   unfolding first
@@ -126,10 +143,15 @@ module _ (t : List ℕ) {r : Record} {m : Memory} (i : Idle r m) (table : judgeT
   unfolding first
   dump-held k = rw (i .long, table, i .within, i .idle, k .held, k .sound)
 
-pub replace-number : {t : List ℕ} {h : TreeHeld} {r : Record} {m : Memory} → Between t h r m → judgeTable t ≡ 0 → (point : ℕ) (new newOwns : List ℕ)
-    → ReplaceNumber t point new newOwns h (replaceRefusal t m r point new newOwns)
-replace-number {t} at-first table point new newOwns = rw (replace-absent t (rests {t = t} at-first) table none-held point new newOwns) absent
-replace-number {t} (behind-history h) table point new newOwns = replace-held t (rests (behind-history h)) table (keeps (finished-state h)) point new newOwns
+pub replace-number : {t : List ℕ} {h : TreeHeld} {r : Record} {m : Memory} → Between t h r m → judgeTable t ≡ 0 → (ps : List Part)
+    → ReplaceNumber t ps h (pointsRefusal t m r ps)
+replace-number {t} {h} {r} {m} b table ps = ⊎-elim
+    (λ (c : tests.miscounted ps ≡ true). replace-miscounted t (rests b) table ps c)
+    (λ (c : tests.miscounted ps ≡ false). by-tree b c) (either (tests.miscounted ps))
+  where
+    by-tree : {h : TreeHeld} {r : Record} {m : Memory} → Between t h r m → tests.miscounted ps ≡ false → ReplaceNumber t ps h (pointsRefusal t m r ps)
+    by-tree at-first c = replace-absent t (rests {t = t} at-first) table none-held ps c
+    by-tree (behind-history a) c = replace-held t (rests (behind-history a)) table (keeps (finished-state a)) ps c
 
 -- a dump's
 abbrev pub dumpNumber : TreeHeld → ℕ

@@ -9,17 +9,18 @@ use native.Mathlib.Omega.{arith}
 use lib.Dec.{eqb}
 use lib.ListN.{length}
 use Rattle.lines.proofs.Values.{lt-or-ge}
+use Rattle.tree.specs.Points.{Part, nodesRow, ownsRow, pointsRow}
 use Rattle.circles.specs.Ranked.{keep, upFrom, ranked}
 use Rattle.climb.specs.System.{Assignment, System, graphOf}
 use Rattle.climb.specs.Memory.{at}
 use Rattle.wire.specs.Instances.{system}
 use Rattle.wire.specs.Laws.{Words}
-use Rattle.wire.specs.Replaced.{nodesAfter, ownsAfter}
 use Rattle.update.specs.declared.Record.{Record}
 use Rattle.update.specs.Records.{evaluationsMost}
 use Rattle.update.specs.Memories.{Memory}
 use Rattle.update.specs.Steps.{Outcome, done, Ending, paused, finished}
-use Rattle.update.specs.Calls.{Said, refused, said, Left, leaving, Opened, Ranged, ranged, is-open, loadCall, replaceCall, stepCall}
+use Rattle.update.specs.Calls.{Said, refused, said, Left, leaving, Opened, Ranged, ranged, is-open, loadCall, pointsCall, stepCall}
+use Rattle.update.specs.Points.{WordsIn}
 use Rattle.demands.specs.Engine.{ours}
 use Rattle.demands.specs.History.{Working, at-start, and-step, WorkedToDone, by-step, Opening, loads, replaces, History, finishes}
 use Rattle.demands.specs.Asked.{LeastSets, ByRank, surviving, changedFrom}
@@ -150,15 +151,14 @@ load-carried t ns owns r r′ m m′ w o h =
     let u = ours-3 .loading t ns owns r r′ m m′ w o h (v p) (least p) (R p) (by-rank p) in
     record { text = told-text p u (λ x. false) (none-changed (S p) (λ x. 0) (v p)); done = told-done p u (loadCall t m r ns owns) h }
 
-pub replacement-carried : (t ns owns : List ℕ) (r r′ : Record) (m m′ : Memory) → History ours t ns owns r m → (point : ℕ) (new newOwns : List ℕ) → Words newOwns
-    → replaceCall t m r point new newOwns ≡ leaving is-open r′ m′
-    → Carried t (replaceCall t m r point new newOwns) (nodesAfter t ns new point) (ownsAfter t ns owns newOwns point) (ReplacementText t ns owns point new newOwns)
-    (toDone t r′ m′)
-replacement-carried t ns owns r r′ m m′ a point new newOwns w h =
-    let p = replaces a point new newOwns w h refl refl in
+pub replacement-carried : (t ns owns : List ℕ) (r r′ : Record) (m m′ : Memory) → History ours t ns owns r m → (ps : List Part) → WordsIn ps
+    → pointsCall t m r ps ≡ leaving is-open r′ m′
+    → Carried t (pointsCall t m r ps) (nodesRow t ns ps) (ownsRow t ns owns ps) (ReplacementText t ns owns ps) (toDone t r′ m′)
+replacement-carried t ns owns r r′ m m′ a ps w h =
+    let p = replaces a ps w h refl refl in
     let old = ours-2 .holds t ns owns r m a .sets in
-    let u = ours-3 .replacing t ns owns r r′ m m′ a point new newOwns w h (at (m .sets)) (v p) old (least p) (R p) (by-rank p) in
+    let u = ours-3 .replacing t ns owns r r′ m m′ a ps w h (at (m .sets)) (v p) old (least p) (R p) (by-rank p) in
     record {
-      text = record { old = at (m .sets); least = old; update = told-text p u (surviving point (length new)) refl };
-      done = told-done p u (replaceCall t m r point new newOwns) h;
+      text = record { old = at (m .sets); least = old; update = told-text p u (surviving (pointsRow t ns ps)) refl };
+      done = told-done p u (pointsCall t m r ps) h;
     }

@@ -2,29 +2,33 @@
 -- frames, commands or steps, and it has no case for what never comes. Assumes nothing.
 use mathlib.Core.Path.{_≡_}
 use mathlib.Core.Bool.{Bool, true, false}
-use mathlib.Core.List.{List, [], _++_}
+use mathlib.Core.List.{List, [], _∷_, _++_}
 use Prim.Native.Nat.{ℕ, _+_, _-_, _≤_, _<_}
-use lib.ListN.{length, getD}
+use lib.ListN.{length}
 use Rattle.refusal.specs.Numbers.{numberOf}
 use Rattle.refusal.specs.declared.Refusal.{Refusal}
-use Rattle.table.specs.Words.{leftOf}
+use Rattle.tree.specs.declared.Point.{Point}
 use Rattle.tree.specs.Tree.{judgeTree}
-use Rattle.tree.specs.Replace.{part}
-use Rattle.wire.specs.Replaced.{nodesAfter, ownsAfter}
+use Rattle.tree.specs.Points.{Part, nodesRow, ownsRow, leavingRow, comingRow}
+use Rattle.tree.specs.PointLaws.{Overlap}
+use Rattle.tree.specs.Handed.{announced, cutRow}
 use Rattle.wire.specs.Waivers.{Waiver, Free}
 use Rattle.update.specs.declared.Record.{Record}
 use Rattle.update.specs.Records.{emptyRecord}
 use Rattle.update.specs.Memories.{Memory}
-use Rattle.update.specs.Calls.{Said, said, Left, Opened, is-open, loadCall, replaceCall}
+use Rattle.update.specs.Refusals.{partsRefusal}
+use Rattle.update.specs.Refused.{Miscounted, Counted, Missing, Present, Separate}
+use Rattle.update.specs.Calls.{Said, said, Left, Opened, is-open, loadCall, pointsCall}
 use Rattle.demands.specs.Engine.{ours}
 use Rattle.demands.specs.History.{WorkedToDone, History}
 use Rattle.frames.specs.declared.Frame.{Frame}
-use Rattle.frames.specs.declared.Frame.the-variants.{Header, Symbol, Production, Equation, Node, Load, Replace, Dump, Refused, Over}
+use Rattle.frames.specs.declared.Frame.the-variants.{Header, Symbol, Production, Equation, Node, Load, Replace, Dump, Corrections, Correction, Refused, Over}
 use Rattle.frames.specs.Frames.{frameAt}
 use Rattle.frames.specs.Out.{refusalText}
 use Rattle.texts.specs.Reading as table
 use Rattle.texts.specs.Refused.{TableRead}
 use Rattle.planting.specs.Planting.{Nodes, good, bad, nodesAt}
+use Rattle.session.specs.Naming.{named, unnamed, pointsAt}
 use Rattle.session.specs.Session.{session, ownMemory}
 use Rattle.session.specs.Lines.{LoadText, ReplacementText, SetsText}
 
@@ -54,14 +58,17 @@ pub data LoadNumber (t ns owns : List ℕ) : ℕ → Type 0 where
   too-many : 512 < length ns → LoadNumber t ns owns 8
   judged : {n : ℕ} → length ns ≤ 512 → TreeNumber t ns (judgeTree t ns owns 0) n → LoadNumber t ns owns n
 
--- a replacement: 16 where no tree is held, 9 for a point outside it, 8 where the tree would have too many nodes, else the number of the new part, whose root
--- is to have the symbol of the point, and of the tree with that part in its place
-pub data ReplaceNumber (t : List ℕ) (point : ℕ) (new newOwns : List ℕ) : TreeHeld → ℕ → Type 0 where
-  absent : ReplaceNumber t point new newOwns no-tree 16
-  outside : {ns owns : List ℕ} → length ns ≤ point → ReplaceNumber t point new newOwns (tree ns owns) 9
-  too-many : {ns owns : List ℕ} → point < length ns → 512 < length ns - part t ns point + length new → ReplaceNumber t point new newOwns (tree ns owns) 8
-  judged : {ns owns : List ℕ} {n : ℕ} → point < length ns → length ns - part t ns point + length new ≤ 512
-      → TreeNumber t (nodesAfter t ns new point) (judgeTree t new newOwns (leftOf t (getD ns point 0))) n → ReplaceNumber t point new newOwns (tree ns owns) n
+-- a replacement: 22 for no point or more than eight, 16 where no tree is held, 9 for a point outside it, 23 for points that meet, 8 where the tree would have too
+-- many nodes, else the number of the first part that has one, whose root is to have the symbol of its point, and of the tree with the parts in their places
+pub data ReplaceNumber (t : List ℕ) (ps : List Part) : TreeHeld → ℕ → Type 0 where
+  miscounted : {h : TreeHeld} → Miscounted ps → ReplaceNumber t ps h 22
+  absent : Counted ps → ReplaceNumber t ps no-tree 16
+  outside : {ns owns : List ℕ} → Counted ps → Missing (length ns) ps → ReplaceNumber t ps (tree ns owns) 9
+  meeting : {ns owns : List ℕ} → Counted ps → Present (length ns) ps → Overlap t ns ps → ReplaceNumber t ps (tree ns owns) 23
+  too-many : {ns owns : List ℕ} → Counted ps → Present (length ns) ps → Separate t ns ps → 512 < length ns - leavingRow t ns ps + comingRow ps
+      → ReplaceNumber t ps (tree ns owns) 8
+  judged : {ns owns : List ℕ} {n : ℕ} → Counted ps → Present (length ns) ps → Separate t ns ps → length ns - leavingRow t ns ps + comingRow ps ≤ 512
+      → TreeNumber t (nodesRow t ns ps) (partsRefusal t ns ps) n → ReplaceNumber t ps (tree ns owns) n
 
 -- ---- a command of the text s, its first line at a place with a number
 
@@ -70,6 +77,23 @@ pub record CommandAt (s : List ℕ) (place line : ℕ) (kind : ℕ → Frame) (n
   pub count : ℕ
   pub frame : frameAt s place line .frame ≡ kind count
   pub found : nodesAt count s (frameAt s place line .place) (frameAt s place line .line) ≡ nodes
+
+-- a replacement by its frames, `07` with one point or `09` with as many as it says: the parts, with the place and the line that come next
+pub data RowAt (s : List ℕ) (place line : ℕ) : List Part → ℕ → ℕ → Type 0 where
+  one : {new newOwns : List ℕ} {place′ line′ : ℕ} (point : ℕ) → CommandAt s place line (Replace point) (good new newOwns place′ line′)
+      → RowAt s place line (record { point = point; nodes = new; owns = newOwns } ∷ []) place′ line′
+  several : {count place₁ line₁ place′ line′ : ℕ} {qs : List Point} {new newOwns : List ℕ} → frameAt s place line .frame ≡ Corrections count
+      → pointsAt count s (frameAt s place line .place) (frameAt s place line .line) ≡ named qs place₁ line₁
+      → nodesAt (announced qs) s place₁ line₁ ≡ good new newOwns place′ line′ → RowAt s place line (cutRow qs new newOwns) place′ line′
+
+-- or one of its lines is bad: a point's, or a node's behind all points
+pub data RowStops (s : List ℕ) (place line : ℕ) (refusal : Refusal) (at : ℕ) : Type 0 where
+  one : (point : ℕ) → CommandAt s place line (Replace point) (bad refusal at) → RowStops s place line refusal at
+  at-point : {count : ℕ} → frameAt s place line .frame ≡ Corrections count
+      → pointsAt count s (frameAt s place line .place) (frameAt s place line .line) ≡ unnamed refusal at → RowStops s place line refusal at
+  at-node : {count place₁ line₁ : ℕ} {qs : List Point} → frameAt s place line .frame ≡ Corrections count
+      → pointsAt count s (frameAt s place line .place) (frameAt s place line .line) ≡ named qs place₁ line₁
+      → nodesAt (announced qs) s place₁ line₁ ≡ bad refusal at → RowStops s place line refusal at
 
 -- a call that opened an update, which was worked to done: r and m are then the end of a history with the tree that was asked for
 pub record UpdateDone (t : List ℕ) (left : Left (Said Opened)) (ns owns : List ℕ) (r : Record) (m : Memory) : Type 0 where
@@ -88,14 +112,11 @@ pub data Command (s t : List ℕ) (place line : ℕ) : TreeHeld → Record → M
   loads : {h : TreeHeld} {r r′ : Record} {m m′ : Memory} {ns owns text : List ℕ} {place′ line′ : ℕ} → CommandAt s place line Load (good ns owns place′ line′)
       → LoadNumber t ns owns 0 → UpdateDone t (loadCall t m r ns owns) ns owns r′ m′ → LoadText t ns owns text
       → Command s t place line h r m text place′ line′ (tree ns owns) r′ m′
-  replacement-refused : {h : TreeHeld} {r : Record} {m : Memory} {new newOwns : List ℕ} {place′ line′ n : ℕ} (point : ℕ)
-      → CommandAt s place line (Replace point) (good new newOwns place′ line′) → ReplaceNumber t point new newOwns h n → 0 < n
+  replacement-refused : {h : TreeHeld} {r : Record} {m : Memory} {ps : List Part} {place′ line′ n : ℕ} → RowAt s place line ps place′ line′ → ReplaceNumber t ps h n → 0 < n
       → Command s t place line h r m (refusalText n line) place′ line′ h r m
-  replaces : {r r′ : Record} {m m′ : Memory} {ns owns new newOwns text : List ℕ} {place′ line′ : ℕ} (point : ℕ)
-      → CommandAt s place line (Replace point) (good new newOwns place′ line′) → ReplaceNumber t point new newOwns (tree ns owns) 0
-      → UpdateDone t (replaceCall t m r point new newOwns) (nodesAfter t ns new point) (ownsAfter t ns owns newOwns point) r′ m′
-      → ReplacementText t ns owns point new newOwns text
-      → Command s t place line (tree ns owns) r m text place′ line′ (tree (nodesAfter t ns new point) (ownsAfter t ns owns newOwns point)) r′ m′
+  replaces : {r r′ : Record} {m m′ : Memory} {ns owns text : List ℕ} {ps : List Part} {place′ line′ : ℕ} → RowAt s place line ps place′ line′
+      → ReplaceNumber t ps (tree ns owns) 0 → UpdateDone t (pointsCall t m r ps) (nodesRow t ns ps) (ownsRow t ns owns ps) r′ m′ → ReplacementText t ns owns ps text
+      → Command s t place line (tree ns owns) r m text place′ line′ (tree (nodesRow t ns ps) (ownsRow t ns owns ps)) r′ m′
   -- refused where no tree is held
   dump-refused : {r : Record} {m : Memory} → frameAt s place line .frame ≡ Dump
       → Command s t place line no-tree r m (refusalText 16 line) (frameAt s place line .place) (frameAt s place line .line) no-tree r m
@@ -104,7 +125,7 @@ pub data Command (s t : List ℕ) (place line : ℕ) : TreeHeld → Record → M
 
 -- ---- the commands
 
--- a frame of a table, or a node: no command begins with it
+-- a frame of a table, a node or a point: no command begins with it
 abbrev pub outOfPlace : Frame → Bool
 outOfPlace (Header a b) = true
 outOfPlace (Symbol a b) = true
@@ -114,17 +135,18 @@ outOfPlace (Node a b) = true
 outOfPlace (Load a) = false
 outOfPlace (Replace a b) = false
 outOfPlace Dump = false
+outOfPlace (Corrections a) = false
+outOfPlace (Correction a b) = true
 outOfPlace (Refused a b) = false
 outOfPlace Over = false
 
--- where they end: the text is over between two commands, or a line is bad or out of place, the command's own or one of its nodes'
+-- where they end: the text is over between two commands, or a line is bad or out of place, the command's own or one of its points' or nodes'
 pub data Stops (s : List ℕ) (place line : ℕ) : List ℕ → Type 0 where
   over : frameAt s place line .frame ≡ Over → Stops s place line []
   bad-line : {refusal : Refusal} {at : ℕ} → frameAt s place line .frame ≡ Refused refusal at → Stops s place line (refusalText (numberOf refusal) at)
   misplaced : outOfPlace (frameAt s place line .frame) ≡ true → Stops s place line (refusalText 14 line)
   bad-load : {refusal : Refusal} {at : ℕ} → CommandAt s place line Load (bad refusal at) → Stops s place line (refusalText (numberOf refusal) at)
-  bad-replacement : {refusal : Refusal} {at : ℕ} (point : ℕ) → CommandAt s place line (Replace point) (bad refusal at)
-      → Stops s place line (refusalText (numberOf refusal) at)
+  bad-replacement : {refusal : Refusal} {at : ℕ} → RowStops s place line refusal at → Stops s place line (refusalText (numberOf refusal) at)
 
 -- one command behind the other, from a place and a line on
 pub data Commands (s t : List ℕ) : ℕ → ℕ → TreeHeld → Record → Memory → List ℕ → Type 0 where

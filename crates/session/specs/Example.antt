@@ -47,7 +47,7 @@ printedA =
 abbrev pub SessionA : Type 0
 SessionA = session textA ≡ printedA
 
--- session A's table; then a dump with no tree, a load of the wrong symbol, a frame of unknown type, and a dump that is not read any more
+-- session A's table; then a dump with no tree, a load of the wrong symbol, a replacement at no point, a frame of unknown type, and a dump that is not read any more
 unfoldable pub refusedText : List ℕ
 refusedText =
     48 ∷ 49 ∷ 48 ∷ 50 ∷ 48 ∷ 51 ∷ 10 ∷
@@ -66,14 +66,16 @@ refusedText =
     48 ∷ 53 ∷ 48 ∷ 49 ∷ 48 ∷ 48 ∷ 48 ∷ 48 ∷ 48 ∷ 48 ∷ 48 ∷ 48 ∷ 48 ∷ 48 ∷ 48 ∷ 48 ∷ 48 ∷ 48 ∷ 48 ∷ 48 ∷ 10 ∷
     48 ∷ 53 ∷ 48 ∷ 49 ∷ 48 ∷ 48 ∷ 48 ∷ 48 ∷ 48 ∷ 48 ∷ 48 ∷ 48 ∷ 48 ∷ 48 ∷ 48 ∷ 48 ∷ 48 ∷ 48 ∷ 48 ∷ 48 ∷ 10 ∷
     48 ∷ 57 ∷ 48 ∷ 48 ∷ 10 ∷
+    48 ∷ 99 ∷ 48 ∷ 48 ∷ 10 ∷
     48 ∷ 56 ∷ 10 ∷ []
 
--- 16 and 7 at their commands' lines, after which it goes on; 14 at its own, after which it stops
+-- 16, 7 and 22 at their commands' lines, after which it goes on; 14 at its own, after which it stops
 unfoldable pub refusedPrinted : List ℕ
 refusedPrinted =
     49 ∷ 102 ∷ 49 ∷ 48 ∷ 48 ∷ 48 ∷ 48 ∷ 48 ∷ 48 ∷ 48 ∷ 48 ∷ 99 ∷ 10 ∷
     49 ∷ 102 ∷ 48 ∷ 55 ∷ 48 ∷ 48 ∷ 48 ∷ 48 ∷ 48 ∷ 48 ∷ 48 ∷ 100 ∷ 10 ∷
-    49 ∷ 102 ∷ 48 ∷ 101 ∷ 48 ∷ 48 ∷ 48 ∷ 48 ∷ 48 ∷ 48 ∷ 49 ∷ 48 ∷ 10 ∷ []
+    49 ∷ 102 ∷ 49 ∷ 54 ∷ 48 ∷ 48 ∷ 48 ∷ 48 ∷ 48 ∷ 48 ∷ 49 ∷ 48 ∷ 10 ∷
+    49 ∷ 102 ∷ 48 ∷ 101 ∷ 48 ∷ 48 ∷ 48 ∷ 48 ∷ 48 ∷ 48 ∷ 49 ∷ 49 ∷ 10 ∷ []
 
 abbrev pub SessionRefused : Type 0
 SessionRefused = session refusedText ≡ refusedPrinted

@@ -1,3 +1,4 @@
+pub mod Naming
 pub mod Session
 pub mod Example
 pub mod Lines

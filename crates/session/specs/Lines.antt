@@ -6,12 +6,12 @@ use mathlib.Core.List.{List, _++_, map}
 use Prim.Native.Nat.{ℕ, suc, _<_}
 use lib.Dec.{eqb}
 use lib.ListN.{length, getD}
+use Rattle.tree.specs.Points.{Part, nodesRow, ownsRow, pointsRow}
 use Rattle.circles.specs.Ranked.{member}
 use Rattle.circles.specs.Laws.{Rising}
 use Rattle.climb.specs.System.{Assignment, System, graphOf}
 use Rattle.climb.specs.Circuit.{circleAt}
 use Rattle.wire.specs.Instances.{declared, system}
-use Rattle.wire.specs.Replaced.{nodesAfter, ownsAfter}
 use Rattle.demands.specs.Work.{Due, Climbing, RoundTurn}
 use Rattle.demands.specs.Asked.{LeastSets, ByRank, newRule, surviving, valueBefore, changedFrom}
 use Rattle.demands.specs.Demands.{roundsDue, circlesDue, evaluationsDue}
@@ -45,12 +45,12 @@ pub record UpdateText (S : System) (fresh survives : ℕ → Bool) (before : Ass
 abbrev pub LoadText : List ℕ → List ℕ → List ℕ → List ℕ → Type 0
 LoadText t ns owns text = UpdateText (system t ns owns) (λ x. true) (λ x. false) (λ x. 0) text
 
--- a replacement in the tree with the nodes ns and the own sets owns, whose least sets are `old`
-pub record ReplacementText (t ns owns : List ℕ) (point : ℕ) (new newOwns text : List ℕ) : Type 0 where
+-- a replacement at one point or several in the tree with the nodes ns and the own sets owns, whose least sets are `old`
+pub record ReplacementText (t ns owns : List ℕ) (ps : List Part) (text : List ℕ) : Type 0 where
   pub old : Assignment
   pub least : LeastSets (system t ns owns) old
-  pub update : UpdateText (system t (nodesAfter t ns new point) (ownsAfter t ns owns newOwns point)) (newRule t (nodesAfter t ns new point) point (length new))
-      (surviving point (length new)) (valueBefore t ns new point old) text
+  pub update : UpdateText (system t (nodesRow t ns ps) (ownsRow t ns owns ps)) (newRule t (nodesRow t ns ps) (pointsRow t ns ps)) (surviving (pointsRow t ns ps))
+      (valueBefore t ns ps old) text
 
 -- ---- a dump
 

@@ -1,24 +1,28 @@
 -- The session as a function from text to text: "The session program reads one table and then commands from standard input, and runs each load or
 -- replacement to done." Assumes nothing.
+use mathlib.Core.Path.{_≡_}
 use mathlib.Core.Bool.{Bool, cond}
 use mathlib.Core.List.{List, [], _∷_, _++_, map}
 use Prim.Native.Nat.{ℕ, zero, suc}
 use lib.ListN.{length, replicate}
 use Rattle.refusal.specs.Numbers.{numberOf}
+use Rattle.tree.specs.declared.Point.{Point}
+use Rattle.tree.specs.Handed.{announced, handedRow}
 use Rattle.update.specs.declared.Record.{Record}
 use Rattle.update.specs.Records.{evaluationsMost, emptyRecord}
 use Rattle.update.specs.Memories.{Memory}
 use Rattle.update.specs.Refusals.{firstRefusal, lookRefusals}
 use Rattle.update.specs.Steps.{Outcome, round, done}
-use Rattle.update.specs.Calls.{Said, refused, said, Left, Opened, is-open, loadCall, replaceCall, stepCall, dumped}
+use Rattle.update.specs.Calls.{Said, refused, said, Left, Opened, is-open, loadCall, replaceCall, pointsCall, stepCall, dumped}
 use Rattle.climb.specs.Memory.{at}
 use Rattle.frames.specs.declared.Frame.{Frame}
-use Rattle.frames.specs.declared.Frame.the-variants.{Header, Symbol, Production, Equation, Node, Load, Replace, Dump, Refused, Over}
+use Rattle.frames.specs.declared.Frame.the-variants.{Header, Symbol, Production, Equation, Node, Load, Replace, Dump, Corrections, Correction, Refused, Over}
 use Rattle.frames.specs.Frames.{frameAt}
 use Rattle.texts.specs.Reading as table
 use Rattle.texts.specs.Reading.{Reading, readingAt}
 use Rattle.planting.specs.Planting.{Nodes, good, bad, nodesAt}
 use Rattle.frames.specs.Out.{roundText, doneText, Held, dumpText, refusalText}
+use Rattle.session.specs.Naming.{Named, named, unnamed, pointsAt}
 
 -- ---- what a command prints, and what it leaves
 
@@ -81,11 +85,22 @@ abbrev pub withNodes : Nodes → (List ℕ → List ℕ → Told) → (ℕ → �
 withNodes (good ps os place line) call go = andOn (call ps os) place line go
 withNodes (bad refusal line) call go = refusalText (numberOf refusal) line
 
+-- the points that a command names, and what is done with them
+abbrev pub withPoints : Named → (List Point → ℕ → ℕ → List ℕ) → List ℕ
+withPoints (named qs place line) then = then qs place line
+withPoints (unnamed refusal line) then = refusalText (numberOf refusal) line
+
+-- a command whose points qs are named: the nodes of all their parts come behind them, from a place of s on
+abbrev pub partsThen : List ℕ → List ℕ → ℕ → Record → Memory → (ℕ → ℕ → Record → Memory → List ℕ) → List Point → ℕ → ℕ → List ℕ
+partsThen s t line r m go qs place next =
+    withNodes (nodesAt (announced qs) s place next) (λ ps os. openedThen line t (pointsCall t m r (handedRow qs ps os))) go
+
 -- the command of a frame at a line; the text goes on behind the frame at `place`, with the line `next`
 abbrev pub command : List ℕ → List ℕ → Frame → ℕ → ℕ → ℕ → Record → Memory → (ℕ → ℕ → Record → Memory → List ℕ) → List ℕ
 command s t (Load count) line place next r m go = withNodes (nodesAt count s place next) (λ ps os. openedThen line t (loadCall t m r ps os)) go
 command s t (Replace point count) line place next r m go =
     withNodes (nodesAt count s place next) (λ ps os. openedThen line t (replaceCall t m r point ps os)) go
+command s t (Corrections count) line place next r m go = withPoints (pointsAt count s place next) (partsThen s t line r m go)
 command s t Dump line place next r m go = andOn (dumpTold line t r m) place next go
 command s t Over line place next r m go = []
 command s t (Refused refusal at-line) line place next r m go = refusalText (numberOf refusal) at-line
@@ -94,6 +109,7 @@ command s t (Symbol a b) line place next r m go = refusalText 14 line
 command s t (Production a b c) line place next r m go = refusalText 14 line
 command s t (Equation a b c d) line place next r m go = refusalText 14 line
 command s t (Node a b) line place next r m go = refusalText 14 line
+command s t (Correction a b) line place next r m go = refusalText 14 line
 
 -- n commands at the most
 unfoldable pub commandsFrom : ℕ → List ℕ → List ℕ → ℕ → ℕ → Record → Memory → List ℕ
@@ -115,3 +131,14 @@ afterTable s (table.stop refusal line) = refusalText (numberOf refusal) line
 -- all that is printed for the text s; every command has a byte at least
 unfoldable pub session : List ℕ → List ℕ
 session s = afterTable s (readingAt s 0 1)
+
+-- ---- `07` gives what `09` with one point gives
+
+-- a replacement by `07`, and one by `09` that names the same point with the same count, in whatever texts: where the same nodes are read for both, both print the same
+-- and leave the same, and each goes on behind its own lines
+abbrev pub OneAsSeveral : Type 0
+OneAsSeveral = (t s s′ : List ℕ) (line place next place′ next′ place₁ next₁ : ℕ) (r : Record) (m : Memory) (point count : ℕ) (ps os : List ℕ) (end end′ last last′ : ℕ)
+    → pointsAt 1 s′ place′ next′ ≡ named (record { node = point; count = count } ∷ []) place₁ next₁
+    → nodesAt count s place next ≡ good ps os end last → nodesAt count s′ place₁ next₁ ≡ good ps os end′ last′
+    → (told : Told) × ((go : ℕ → ℕ → Record → Memory → List ℕ) → command s t (Replace point count) line place next r m go ≡ andOn told end last go)
+    × ((go : ℕ → ℕ → Record → Memory → List ℕ) → command s′ t (Corrections 1) line place′ next′ r m go ≡ andOn told end′ last′ go)

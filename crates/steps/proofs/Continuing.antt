@@ -1,28 +1,24 @@
 -- A loop of steps is the run. Assumes nothing.
 use mathlib.Core.Path.{_≡_, refl, sym, ap, _∙_}
 use mathlib.Core.Bool.{Bool, true, false, true≢false}
-use mathlib.Core.Logic.{⊎-elim}
 use mathlib.Core.List.{List, [], _∷_}
-use Prim.Native.Nat.{ℕ, suc, _+_, _-_, _≤_, _<_, zero-le}
-use native.Mathlib.Nat.{add-zero, add-suc, zero-add, suc-add, min-le-right}
+use Prim.Native.Nat.{ℕ, suc, _+_, _-_, _≤_, _<_}
+use native.Mathlib.Nat.{add-zero, add-suc, zero-add, suc-add}
 use native.Mathlib.Omega.{arith}
-use lib.Dec.{ltb}
-use borrow.Author.Tests.{ltb-true}
 use lib.ListN.{length}
 use types.Run.{OneOf, miss}
 use denote.Enum.Declared.{tagOf}
 use Rattle.climb.specs.System.{System}
-use Rattle.climb.specs.Circuit.{circleAt}
-use Rattle.climb.proofs.Lists.{either}
 use Rattle.update.specs.declared.Record.{Record}
 use Rattle.update.specs.declared.Answer.{Answer}
 use Rattle.update.specs.declared.Answer.the-variants.{Round, Done, Refused}
 use Rattle.update.specs.declared.Run.the-variants.{Paused, Finished}
 use Rattle.update.proofs.Answer as A
-use Rattle.update.specs.Records.{shut}
 use Rattle.update.specs.Within.{WithinLimits}
-use Rattle.update.specs.Steps.{Outcome, round, done, roundNumber, roundRecord, roundMade, doneMade, dueFrom, stepOf, Ran, runOf}
+use Rattle.update.specs.Steps.{Outcome, round, done, stepOf, Ran, runOf}
 use Rattle.update.specs.Calls.{Said, refused, said, answerSays}
+use Rattle.update.proofs.Leaving as Leaving
+use Rattle.update.proofs.Within.{beyond-means}
 use Rattle.rounds.specs.Arranged.{Lent}
 use Rattle.steps.specs.Says.{StepSays, RunSays}
 
@@ -93,57 +89,9 @@ module _ (S : System) (R : List (List ℕ)) (b : List ℕ) (budget : ℕ) (r₀ 
 
 -- ---- a step keeps a record to its limits
 
-round-within : (r : Record) (i k n : ℕ) (t : Bool) → WithinLimits r → i < 4092 → k ≤ 262145 → WithinLimits (roundRecord r i k n t)
-unfolding roundRecord
-round-within r i k n true w h l = record {
-  nodes = w .nodes;
-  point = w .point;
-  part = w .part;
-  rank = h;
-  round = zero-le;
-  circles = min-le-right (suc (r .circles)) 4092;
-  evaluations = min-le-right (r .evaluations + n) 1073745920;
-  inside = w .inside;
-}
-round-within r i k n false w h l = record {
-  nodes = w .nodes;
-  point = w .point;
-  part = w .part;
-  rank = omega arith;
-  round = l;
-  circles = w .circles;
-  evaluations = min-le-right (r .evaluations + n) 1073745920;
-  inside = w .inside;
-}
-
-shut-within : (r : Record) → WithinLimits r → WithinLimits (shut (r .held) (r .nodes))
-unfolding shut
-shut-within r w = record {
-  nodes = w .nodes;
-  point = zero-le;
-  part = zero-le;
-  rank = zero-le;
-  round = zero-le;
-  circles = zero-le;
-  evaluations = zero-le;
-  inside = λ e. absurd (true≢false (sym e));
-}
-
-number-most : (r : Record) (i : ℕ) → roundNumber r i ≤ 262145
-unfolding roundNumber
-number-most r i = min-le-right _ 262145
-
-made-within : (S : System) (R : List (List ℕ)) (r : Record) (b s : List ℕ) → WithinLimits r → length R ≤ 4092 → WithinLimits (stepOf S R r b s .next)
-unfolding stepOf roundMade doneMade
-made-within S R r b s w l =
-    let i = dueFrom S R r b s in
-    ⊎-elim
-    (λ (h : ltb (dueFrom S R r b s) (length R) ≡ true). rw h (round-within r i (roundNumber r i) (length (circleAt R i)) _ w (omega (arith, ltb-true i (length R) h)) (number-most r i)))
-    (λ (h : ltb (dueFrom S R r b s) (length R) ≡ false). rw h (shut-within r w)) (either (ltb i (length R)))
-
 pub step-within : (S : System) (R : List (List ℕ)) (r : Record) (b s : List ℕ) (a : Answer) (d : Record) (s′ : List ℕ) → WithinLimits r → length R ≤ 4092
     → StepSays (stepOf S R r b s) a d s′ → WithinLimits d
-step-within S R r b s a d s′ w l u = rw (u .next) (made-within S R r b s w l)
+step-within S R r b s a d s′ w l u = rw (u .next) (beyond-means (stepOf S R r b s .next) .0 (Leaving.step-within S R b r s l (beyond-means r .1 w)))
 
 -- of what is lent to be written the lengths alone are asked
 pub lent-kept : {n : ℕ} {b v w v′ w′ : List ℕ} → length v′ ≡ length v → length w′ ≡ length w → Lent n b v w → Lent n b v′ w′

@@ -5,6 +5,7 @@ use rounds::next_record;
 use rounds::round_at;
 use rounds::round_number;
 use rounds::wide;
+use tree::Point;
 use update::Answer;
 use update::Open;
 use update::Record;
@@ -40,8 +41,8 @@ fn finish<'a>(a: &'a [u16], n: usize, before: &'a [u64], sets: &'a [u64], r: Rec
             held: r.held,
             open: Open::Nothing,
             nodes: r.nodes,
-            point: 0,
-            part: 0,
+            count: 0,
+            points: [Point { node: 0, count: 0 }; 8],
             rank: 0,
             round: 0,
             circles: 0,

@@ -23,7 +23,7 @@ use Rattle.texts.specs.Read.{typeOf, typeAt, wordOf, constantOf, store, 
 use Rattle.frames.specs.Laws.{Kids, Fits}
 use Rattle.frames.specs.declared.Children.{Children}
 use Rattle.frames.specs.declared.Frame.{Frame}
-use Rattle.frames.specs.declared.Frame.the-variants.{Header, Symbol, Production, Equation, Node, Load, Replace, Dump, Refused, Over}
+use Rattle.frames.specs.declared.Frame.the-variants.{Header, Symbol, Production, Equation, Node, Load, Replace, Dump, Corrections, Correction, Refused, Over}
 use Rattle.frames.specs.declared.Expected.{Expected}
 use Rattle.frames.specs.declared.Expected.the-variants.{AtHeader, AtSymbol, AtProduction, AtEquation, Ended}
 use Rattle.texts.proofs.Order.{Valid}
@@ -202,6 +202,8 @@ fits-of u AtHeader (Node p o) ty bd wd rd = never ty
 fits-of u AtHeader (Load n) ty bd wd rd = never ty
 fits-of u AtHeader (Replace r n) ty bd wd rd = never ty
 fits-of u AtHeader Dump ty bd wd rd = never ty
+fits-of u AtHeader (Corrections n) ty bd wd rd = never ty
+fits-of u AtHeader (Correction r n) ty bd wd rd = never ty
 fits-of u AtHeader (Refused r l) ty bd wd rd = never ty
 fits-of u AtHeader Over ty bd wd rd = never ty
 fits-of u (AtSymbol s) (Header a b) ty bd wd rd = never ty
@@ -212,6 +214,8 @@ fits-of u (AtSymbol s) (Node p o) ty bd wd rd = never ty
 fits-of u (AtSymbol s) (Load n) ty bd wd rd = never ty
 fits-of u (AtSymbol s) (Replace r n) ty bd wd rd = never ty
 fits-of u (AtSymbol s) Dump ty bd wd rd = never ty
+fits-of u (AtSymbol s) (Corrections n) ty bd wd rd = never ty
+fits-of u (AtSymbol s) (Correction r n) ty bd wd rd = never ty
 fits-of u (AtSymbol s) (Refused r l) ty bd wd rd = never ty
 fits-of u (AtSymbol s) Over ty bd wd rd = never ty
 fits-of u (AtProduction q) (Header a b) ty bd wd rd = never ty
@@ -222,6 +226,8 @@ fits-of u (AtProduction q) (Node p o) ty bd wd rd = never ty
 fits-of u (AtProduction q) (Load n) ty bd wd rd = never ty
 fits-of u (AtProduction q) (Replace r n) ty bd wd rd = never ty
 fits-of u (AtProduction q) Dump ty bd wd rd = never ty
+fits-of u (AtProduction q) (Corrections n) ty bd wd rd = never ty
+fits-of u (AtProduction q) (Correction r n) ty bd wd rd = never ty
 fits-of u (AtProduction q) (Refused r l) ty bd wd rd = never ty
 fits-of u (AtProduction q) Over ty bd wd rd = never ty
 fits-of u (AtEquation x y z) (Header a b) ty bd wd rd = never ty
@@ -232,6 +238,8 @@ fits-of u (AtEquation x y z) (Node p o) ty bd wd rd = never ty
 fits-of u (AtEquation x y z) (Load n) ty bd wd rd = never ty
 fits-of u (AtEquation x y z) (Replace r n) ty bd wd rd = never ty
 fits-of u (AtEquation x y z) Dump ty bd wd rd = never ty
+fits-of u (AtEquation x y z) (Corrections n) ty bd wd rd = never ty
+fits-of u (AtEquation x y z) (Correction r n) ty bd wd rd = never ty
 fits-of u (AtEquation x y z) (Refused r l) ty bd wd rd = never ty
 fits-of u (AtEquation x y z) Over ty bd wd rd = never ty
 fits-of u Ended (Header a b) ty bd wd rd = never ty
@@ -242,6 +250,8 @@ fits-of u Ended (Node p o) ty bd wd rd = never ty
 fits-of u Ended (Load n) ty bd wd rd = never ty
 fits-of u Ended (Replace r n) ty bd wd rd = never ty
 fits-of u Ended Dump ty bd wd rd = never ty
+fits-of u Ended (Corrections n) ty bd wd rd = never ty
+fits-of u Ended (Correction r n) ty bd wd rd = never ty
 fits-of u Ended (Refused r l) ty bd wd rd = never ty
 fits-of u Ended Over ty bd wd rd = never ty
 
@@ -255,6 +265,8 @@ shown-is u AtHeader (Node p o) ty bd wd = never ty
 shown-is u AtHeader (Load n) ty bd wd = never ty
 shown-is u AtHeader (Replace r n) ty bd wd = never ty
 shown-is u AtHeader Dump ty bd wd = never ty
+shown-is u AtHeader (Corrections n) ty bd wd = never ty
+shown-is u AtHeader (Correction r n) ty bd wd = never ty
 shown-is u AtHeader (Refused r l) ty bd wd = never ty
 shown-is u AtHeader Over ty bd wd = never ty
 shown-is u (AtSymbol s) (Header a b) ty bd wd = never ty
@@ -265,6 +277,8 @@ shown-is u (AtSymbol s) (Node p o) ty bd wd = never ty
 shown-is u (AtSymbol s) (Load n) ty bd wd = never ty
 shown-is u (AtSymbol s) (Replace r n) ty bd wd = never ty
 shown-is u (AtSymbol s) Dump ty bd wd = never ty
+shown-is u (AtSymbol s) (Corrections n) ty bd wd = never ty
+shown-is u (AtSymbol s) (Correction r n) ty bd wd = never ty
 shown-is u (AtSymbol s) (Refused r l) ty bd wd = never ty
 shown-is u (AtSymbol s) Over ty bd wd = never ty
 shown-is u (AtProduction q) (Header a b) ty bd wd = never ty
@@ -275,6 +289,8 @@ shown-is u (AtProduction q) (Node p o) ty bd wd = never ty
 shown-is u (AtProduction q) (Load n) ty bd wd = never ty
 shown-is u (AtProduction q) (Replace r n) ty bd wd = never ty
 shown-is u (AtProduction q) Dump ty bd wd = never ty
+shown-is u (AtProduction q) (Corrections n) ty bd wd = never ty
+shown-is u (AtProduction q) (Correction r n) ty bd wd = never ty
 shown-is u (AtProduction q) (Refused r l) ty bd wd = never ty
 shown-is u (AtProduction q) Over ty bd wd = never ty
 shown-is u (AtEquation x y z) (Header a b) ty bd wd = never ty
@@ -285,6 +301,8 @@ shown-is u (AtEquation x y z) (Node p o) ty bd wd = never ty
 shown-is u (AtEquation x y z) (Load n) ty bd wd = never ty
 shown-is u (AtEquation x y z) (Replace r n) ty bd wd = never ty
 shown-is u (AtEquation x y z) Dump ty bd wd = never ty
+shown-is u (AtEquation x y z) (Corrections n) ty bd wd = never ty
+shown-is u (AtEquation x y z) (Correction r n) ty bd wd = never ty
 shown-is u (AtEquation x y z) (Refused r l) ty bd wd = never ty
 shown-is u (AtEquation x y z) Over ty bd wd = never ty
 shown-is u Ended (Header a b) ty bd wd = never ty
@@ -295,6 +313,8 @@ shown-is u Ended (Node p o) ty bd wd = never ty
 shown-is u Ended (Load n) ty bd wd = never ty
 shown-is u Ended (Replace r n) ty bd wd = never ty
 shown-is u Ended Dump ty bd wd = never ty
+shown-is u Ended (Corrections n) ty bd wd = never ty
+shown-is u Ended (Correction r n) ty bd wd = never ty
 shown-is u Ended (Refused r l) ty bd wd = never ty
 shown-is u Ended Over ty bd wd = never ty
 

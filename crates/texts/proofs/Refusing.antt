@@ -21,7 +21,7 @@ use Rattle.lines.specs.Exactly.{NoLine}
 use Rattle.lines.proofs.Values.{lt-or-ge}
 use Rattle.frames.specs.Frames.{lineAfter, frameAt}
 use Rattle.frames.specs.Walk.{entryOf, nextOf, isOn}
-use Rattle.frames.specs.Exactly.{Fields, header, symbol, production, equation, node, load, replace, dump, IsFrame, Astray, ended as text-ended}
+use Rattle.frames.specs.Exactly.{Fields, header, symbol, production, equation, node, load, replace, dump, corrections, correction, IsFrame, Astray, ended as text-ended}
 use Rattle.frames.specs.declared.Frame.{Frame}
 use Rattle.frames.specs.declared.Step.{Step}
 use Rattle.frames.specs.declared.Expected.{Expected}
@@ -61,6 +61,8 @@ type-of node = refl
 type-of load = refl
 type-of replace = refl
 type-of dump = refl
+type-of corrections = refl
+type-of correction = refl
 
 -- a refusal and the text's end have no type that is expected
 no-type : (x : Expected) → eqb 0 (typeAt x) ≡ false
@@ -86,6 +88,8 @@ stray-stops (strange node h) = refl
 stray-stops (strange load h) = refl
 stray-stops (strange replace h) = refl
 stray-stops (strange dump h) = refl
+stray-stops (strange corrections h) = refl
+stray-stops (strange correction h) = refl
 
 -- where a frame stands, one is expected
 on-there : {s : List ℕ} {at n type : ℕ} {f : Frame} (x : Expected) → type ≡ typeAt x → Fields s at f type n → isOn x ≡ true
@@ -93,7 +97,7 @@ on-there AtHeader e w = refl
 on-there (AtSymbol s) e w = refl
 on-there (AtProduction p) e w = refl
 on-there (AtEquation p q k) e w = refl
-on-there {f = f} Ended e w = absurd (true≢false (sym (eq-eqb (typeOf f) 9 (type-of w ∙ e)) ∙ never-ended f))
+on-there {f = f} Ended e w = absurd (true≢false (sym (eq-eqb (typeOf f) 256 (type-of w ∙ e)) ∙ never-ended f))
 
 module _ (s t : List ℕ) (x : Expected) (at l : ℕ) where
   abbrev found : Frame

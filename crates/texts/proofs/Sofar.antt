@@ -21,7 +21,7 @@ use Rattle.table.proofs.Local.{header-local, symbol-local, production-local, eq
 use Rattle.frames.specs.Walk.{entryOf, afterPart, seekFrom, nextOf, isOn}
 use Rattle.texts.specs.Read.{typeOf, typeAt, wordOf, constantOf, store, wordsAfter, strangeAt, judgedAt, takenAt, Awaits, Top, Part, Within, Sofar, Goes}
 use Rattle.frames.specs.declared.Frame as text
-use Rattle.frames.specs.declared.Frame.the-variants.{Header, Symbol, Production, Equation, Node, Load, Replace, Dump, Refused, Over}
+use Rattle.frames.specs.declared.Frame.the-variants.{Header, Symbol, Production, Equation, Node, Load, Replace, Dump, Corrections, Correction, Refused, Over}
 use Rattle.frames.specs.declared.Expected.{Expected}
 use Rattle.frames.specs.declared.Expected.the-variants.{AtHeader, AtSymbol, AtProduction, AtEquation, Ended}
 use Rattle.texts.specs.declared.Taken.the-variants.{Next, Stopped}
@@ -243,6 +243,8 @@ never-next (Node a b) line y e = absurd (let n : _≡_ {A = ℕ} 0 1 = cc in ome
 never-next (Load a) line y e = absurd (let n : _≡_ {A = ℕ} 0 1 = cc in omega arith)
 never-next (Replace a b) line y e = absurd (let n : _≡_ {A = ℕ} 0 1 = cc in omega arith)
 never-next Dump line y e = absurd (let n : _≡_ {A = ℕ} 0 1 = cc in omega arith)
+never-next (Corrections a) line y e = absurd (let n : _≡_ {A = ℕ} 0 1 = cc in omega arith)
+never-next (Correction a b) line y e = absurd (let n : _≡_ {A = ℕ} 0 1 = cc in omega arith)
 never-next (Refused a b) line y e = absurd (let n : _≡_ {A = ℕ} 0 1 = cc in omega arith)
 never-next Over line y e = absurd (let n : _≡_ {A = ℕ} 0 1 = cc in omega arith)
 

@@ -22,7 +22,7 @@ use Rattle.texts.specs.Read.{typeOf, typeAt, wordOf, constantOf, store, 
 use Rattle.frames.specs.declared.Children.{Children}
 use Rattle.sets.specs.declared.Argument.{Argument}
 use Rattle.frames.specs.declared.Frame.{Frame}
-use Rattle.frames.specs.declared.Frame.the-variants.{Header, Symbol, Production, Equation, Node, Load, Replace, Dump, Refused, Over}
+use Rattle.frames.specs.declared.Frame.the-variants.{Header, Symbol, Production, Equation, Node, Load, Replace, Dump, Corrections, Correction, Refused, Over}
 use Rattle.frames.specs.declared.Expected.{Expected}
 use Rattle.frames.specs.declared.Expected.the-variants.{AtHeader, AtSymbol, AtProduction, AtEquation, Ended}
 use Rattle.texts.specs.declared.Taken.{Taken}
@@ -32,8 +32,8 @@ use Rattle.planting.proofs.Numbers.{by-number}
 use Rattle.frames.proofs.Frame as F
 
 -- a frame of another type, by its tag
-pub not-header : (f : Frame) → OneOf (1 ∷ 2 ∷ 3 ∷ 4 ∷ 5 ∷ 6 ∷ 7 ∷ 8 ∷ 9 ∷ []) (tagOf F.the-type f) → eqb (typeOf f) 1 ≡ false
-not-header (Header a b) k = absurd (miss (1 ∷ 2 ∷ 3 ∷ 4 ∷ 5 ∷ 6 ∷ 7 ∷ 8 ∷ 9 ∷ []) 0 tt k)
+pub not-header : (f : Frame) → OneOf (1 ∷ 2 ∷ 3 ∷ 4 ∷ 5 ∷ 6 ∷ 7 ∷ 8 ∷ 9 ∷ 10 ∷ 11 ∷ []) (tagOf F.the-type f) → eqb (typeOf f) 1 ≡ false
+not-header (Header a b) k = absurd (miss (1 ∷ 2 ∷ 3 ∷ 4 ∷ 5 ∷ 6 ∷ 7 ∷ 8 ∷ 9 ∷ 10 ∷ 11 ∷ []) 0 tt k)
 not-header (Symbol a b) k = refl
 not-header (Production a b c) k = refl
 not-header (Equation a b c d) k = refl
@@ -41,46 +41,54 @@ not-header (Node a b) k = refl
 not-header (Load a) k = refl
 not-header (Replace a b) k = refl
 not-header Dump k = refl
+not-header (Corrections a) k = refl
+not-header (Correction a b) k = refl
 not-header (Refused a b) k = refl
 not-header Over k = refl
 
-pub not-symbol : (f : Frame) → OneOf (0 ∷ 2 ∷ 3 ∷ 4 ∷ 5 ∷ 6 ∷ 7 ∷ 8 ∷ 9 ∷ []) (tagOf F.the-type f) → eqb (typeOf f) 2 ≡ false
+pub not-symbol : (f : Frame) → OneOf (0 ∷ 2 ∷ 3 ∷ 4 ∷ 5 ∷ 6 ∷ 7 ∷ 8 ∷ 9 ∷ 10 ∷ 11 ∷ []) (tagOf F.the-type f) → eqb (typeOf f) 2 ≡ false
 not-symbol (Header a b) k = refl
-not-symbol (Symbol a b) k = absurd (miss (0 ∷ 2 ∷ 3 ∷ 4 ∷ 5 ∷ 6 ∷ 7 ∷ 8 ∷ 9 ∷ []) 1 tt k)
+not-symbol (Symbol a b) k = absurd (miss (0 ∷ 2 ∷ 3 ∷ 4 ∷ 5 ∷ 6 ∷ 7 ∷ 8 ∷ 9 ∷ 10 ∷ 11 ∷ []) 1 tt k)
 not-symbol (Production a b c) k = refl
 not-symbol (Equation a b c d) k = refl
 not-symbol (Node a b) k = refl
 not-symbol (Load a) k = refl
 not-symbol (Replace a b) k = refl
 not-symbol Dump k = refl
+not-symbol (Corrections a) k = refl
+not-symbol (Correction a b) k = refl
 not-symbol (Refused a b) k = refl
 not-symbol Over k = refl
 
-pub not-production : (f : Frame) → OneOf (0 ∷ 1 ∷ 3 ∷ 4 ∷ 5 ∷ 6 ∷ 7 ∷ 8 ∷ 9 ∷ []) (tagOf F.the-type f) → eqb (typeOf f) 3 ≡ false
+pub not-production : (f : Frame) → OneOf (0 ∷ 1 ∷ 3 ∷ 4 ∷ 5 ∷ 6 ∷ 7 ∷ 8 ∷ 9 ∷ 10 ∷ 11 ∷ []) (tagOf F.the-type f) → eqb (typeOf f) 3 ≡ false
 not-production (Header a b) k = refl
 not-production (Symbol a b) k = refl
-not-production (Production a b c) k = absurd (miss (0 ∷ 1 ∷ 3 ∷ 4 ∷ 5 ∷ 6 ∷ 7 ∷ 8 ∷ 9 ∷ []) 2 tt k)
+not-production (Production a b c) k = absurd (miss (0 ∷ 1 ∷ 3 ∷ 4 ∷ 5 ∷ 6 ∷ 7 ∷ 8 ∷ 9 ∷ 10 ∷ 11 ∷ []) 2 tt k)
 not-production (Equation a b c d) k = refl
 not-production (Node a b) k = refl
 not-production (Load a) k = refl
 not-production (Replace a b) k = refl
 not-production Dump k = refl
+not-production (Corrections a) k = refl
+not-production (Correction a b) k = refl
 not-production (Refused a b) k = refl
 not-production Over k = refl
 
-pub not-equation : (f : Frame) → OneOf (0 ∷ 1 ∷ 2 ∷ 4 ∷ 5 ∷ 6 ∷ 7 ∷ 8 ∷ 9 ∷ []) (tagOf F.the-type f) → eqb (typeOf f) 4 ≡ false
+pub not-equation : (f : Frame) → OneOf (0 ∷ 1 ∷ 2 ∷ 4 ∷ 5 ∷ 6 ∷ 7 ∷ 8 ∷ 9 ∷ 10 ∷ 11 ∷ []) (tagOf F.the-type f) → eqb (typeOf f) 4 ≡ false
 not-equation (Header a b) k = refl
 not-equation (Symbol a b) k = refl
 not-equation (Production a b c) k = refl
-not-equation (Equation a b c d) k = absurd (miss (0 ∷ 1 ∷ 2 ∷ 4 ∷ 5 ∷ 6 ∷ 7 ∷ 8 ∷ 9 ∷ []) 3 tt k)
+not-equation (Equation a b c d) k = absurd (miss (0 ∷ 1 ∷ 2 ∷ 4 ∷ 5 ∷ 6 ∷ 7 ∷ 8 ∷ 9 ∷ 10 ∷ 11 ∷ []) 3 tt k)
 not-equation (Node a b) k = refl
 not-equation (Load a) k = refl
 not-equation (Replace a b) k = refl
 not-equation Dump k = refl
+not-equation (Corrections a) k = refl
+not-equation (Correction a b) k = refl
 not-equation (Refused a b) k = refl
 not-equation Over k = refl
 
-pub not-refused : (f : Frame) (line : ℕ) → OneOf (0 ∷ 1 ∷ 2 ∷ 3 ∷ 4 ∷ 5 ∷ 6 ∷ 7 ∷ 9 ∷ []) (tagOf F.the-type f) → Stopped why.Frame line ≡ strangeAt f line
+pub not-refused : (f : Frame) (line : ℕ) → OneOf (0 ∷ 1 ∷ 2 ∷ 3 ∷ 4 ∷ 5 ∷ 6 ∷ 7 ∷ 8 ∷ 9 ∷ 11 ∷ []) (tagOf F.the-type f) → Stopped why.Frame line ≡ strangeAt f line
 not-refused (Header a b) line k = refl
 not-refused (Symbol a b) line k = refl
 not-refused (Production a b c) line k = refl
@@ -89,10 +97,12 @@ not-refused (Node a b) line k = refl
 not-refused (Load a) line k = refl
 not-refused (Replace a b) line k = refl
 not-refused Dump line k = refl
-not-refused (Refused a b) line k = absurd (miss (0 ∷ 1 ∷ 2 ∷ 3 ∷ 4 ∷ 5 ∷ 6 ∷ 7 ∷ 9 ∷ []) 8 tt k)
+not-refused (Corrections a) line k = refl
+not-refused (Correction a b) line k = refl
+not-refused (Refused a b) line k = absurd (miss (0 ∷ 1 ∷ 2 ∷ 3 ∷ 4 ∷ 5 ∷ 6 ∷ 7 ∷ 8 ∷ 9 ∷ 11 ∷ []) 10 tt k)
 not-refused Over line k = refl
 
-pub never-ended : (f : Frame) → eqb (typeOf f) 9 ≡ false
+pub never-ended : (f : Frame) → eqb (typeOf f) 256 ≡ false
 never-ended (Header a b) = refl
 never-ended (Symbol a b) = refl
 never-ended (Production a b c) = refl
@@ -101,6 +111,8 @@ never-ended (Node a b) = refl
 never-ended (Load a) = refl
 never-ended (Replace a b) = refl
 never-ended Dump = refl
+never-ended (Corrections a) = refl
+never-ended (Correction a b) = refl
 never-ended (Refused a b) = refl
 never-ended Over = refl
 

@@ -14,7 +14,7 @@ use Rattle.refusal.specs.declared.Refusal.the-variants as why
 use Rattle.frames.specs.Walk.{entryOf, nextOf}
 use Rattle.planting.specs.Written.{refusalOf}
 use Rattle.frames.specs.declared.Frame.{Frame}
-use Rattle.frames.specs.declared.Frame.the-variants.{Header, Symbol, Production, Equation, Node, Load, Replace, Dump, Refused, Over}
+use Rattle.frames.specs.declared.Frame.the-variants.{Header, Symbol, Production, Equation, Node, Load, Replace, Dump, Corrections, Correction, Refused, Over}
 use Rattle.frames.specs.declared.Expected.{Expected}
 use Rattle.frames.specs.declared.Expected.the-variants.{AtHeader, AtSymbol, AtProduction, AtEquation, Ended}
 use Rattle.texts.specs.declared.Taken.{Taken}
@@ -30,16 +30,18 @@ typeOf (Node a b) = 5
 typeOf (Load a) = 6
 typeOf (Replace a b) = 7
 typeOf Dump = 8
+typeOf (Corrections a) = 9
+typeOf (Correction a b) = 11
 typeOf (Refused a b) = 0
 typeOf Over = 0
 
--- the type that is expected; at the end none that a frame has
+-- the type that is expected; at the end one that no byte holds, so none that a frame has
 abbrev pub typeAt : Expected → ℕ
 typeAt AtHeader = 1
 typeAt (AtSymbol s) = 2
 typeAt (AtProduction p) = 3
 typeAt (AtEquation p q k) = 4
-typeAt Ended = 9
+typeAt Ended = 256
 
 -- a frame's fields as one number, as the words of a table have them
 unfoldable pub wordOf : Frame → ℕ
@@ -51,6 +53,8 @@ wordOf (Node a b) = 0
 wordOf (Load a) = 0
 wordOf (Replace a b) = 0
 wordOf Dump = 0
+wordOf (Corrections a) = 0
+wordOf (Correction a b) = 0
 wordOf (Refused a b) = 0
 wordOf Over = 0
 
@@ -64,6 +68,8 @@ constantOf (Node a b) = 0
 constantOf (Load a) = 0
 constantOf (Replace a b) = 0
 constantOf Dump = 0
+constantOf (Corrections a) = 0
+constantOf (Correction a b) = 0
 constantOf (Refused a b) = 0
 constantOf Over = 0
 
@@ -89,6 +95,8 @@ strangeAt (Node a b) line = Stopped why.Frame line
 strangeAt (Load a) line = Stopped why.Frame line
 strangeAt (Replace a b) line = Stopped why.Frame line
 strangeAt Dump line = Stopped why.Frame line
+strangeAt (Corrections a) line = Stopped why.Frame line
+strangeAt (Correction a b) line = Stopped why.Frame line
 strangeAt (Refused refusal own) line = Stopped refusal own
 strangeAt Over line = Stopped why.Frame line
 

@@ -11,3 +11,4 @@ pub mod Parents
 pub mod Moved
 pub mod Elements
 pub mod Replace
+pub mod Points

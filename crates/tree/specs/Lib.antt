@@ -9,4 +9,8 @@ pub mod Refused
 pub mod Parents
 pub mod Moved
 pub mod Replacement
+pub mod Points
+pub mod PointLaws
+pub mod Handed
 pub mod Example
+pub mod PointExample

@@ -24,6 +24,31 @@ pub enum Walk {
     Wrong(Refusal),
 }
 
+// A point of a replacement, by its number in a tree, and its new part's count.
+pub struct Point {
+    pub node: usize,
+    pub count: usize,
+}
+
+// The points that a call names, by their numbers in the tree as it was: the first `count` of them.
+pub struct Places {
+    pub count: usize,
+    pub points: [Point; 8],
+}
+
+// A point of the tree as it was, with the count of its subtree, which makes way, and of its new part.
+pub struct Cut {
+    pub node: usize,
+    pub old: usize,
+    pub count: usize,
+}
+
+// The cuts at the points that a call names: the first `count` of them.
+pub struct Cuts {
+    pub count: usize,
+    pub cuts: [Cut; 8],
+}
+
 fn wide(x: u8) -> usize
     ensures { λ r. ⌜ (r ≡ x) × (r < 256) ⌝ }
 {

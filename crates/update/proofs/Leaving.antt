@@ -1,28 +1,29 @@
 -- No call leaves a record that the next one refuses by 11: opened ones lie inside the tree, and at their limits numbers stay. Assumes nothing.
-use mathlib.Core.Path.{_≡_}
+use mathlib.Core.Path.{_≡_, sym, ap, _∙_}
 use mathlib.Core.Bool.{Bool, true, false, cond}
 use mathlib.Core.Logic.{⊎-elim}
 use mathlib.Core.List.{List, [], _∷_}
-use Prim.Native.Nat.{ℕ, zero, suc, _+_, _-_, _≤_, _<_, min, zero-le}
+use Prim.Native.Nat.{ℕ, zero, suc, _≤_, _<_, zero-le}
 use native.Mathlib.Omega.{arith}
 use lib.Dec.{eqb, ltb}
-use lib.ListN.{length, drop, length-take, length-drop}
+use lib.ListN.{length}
 use borrow.Author.Tests.{ltb-true}
-use Rattle.table.specs.Words.{childCount}
-use Rattle.tree.specs.Tree.{judgeNodes, judgeTree, size}
-use Rattle.tree.specs.Replace.{part}
+use Rattle.tree.specs.Tree.{judgeNodes, judgeTree}
+use Rattle.tree.specs.Points.{Part, pointsRow}
+use Rattle.tree.proofs.Points.{row-count}
 use Rattle.climb.specs.Circuit.{circleAt}
 use Rattle.climb.proofs.Lists.{either}
 use Rattle.update.specs.declared.Record.{Record}
 use Rattle.update.specs.declared.Open.the-variants.{Load, Replacement}
 use Rattle.update.specs.Records.{beyond}
 use Rattle.update.specs.Memories.{Memory, nodesOf}
-use Rattle.update.specs.Refusals.{loadRefusal, replaceRefusal}
+use Rattle.update.specs.Refusals.{loadRefusal, replaceRefusal, nodesLeft, pointsRefusal}
 use Rattle.update.specs.Steps.{roundNumber, fromOf, toOf, closedOf, roundRecord, Outcome, round, done, roundMade, doneMade, dueFrom, stepOf, continued, Ran, runOf}
-use Rattle.update.specs.Calls.{loadCall, replaceCall}
-use Rattle.update.specs.Within.{WithinLimits, StepWithin, RunWithin, AllOpenWithin}
+use Rattle.update.specs.Calls.{Said, Left, Opened, loadPoint, loadCall, replaceCall, pointsCall}
+use Rattle.update.specs.Within.{none, more, WithinLimits, StepWithin, RunWithin, AllOpenWithin}
 use Rattle.update.proofs.Within.{beyond-means, all-open, all-shut}
 use Rattle.update.proofs.Refusing.{all-exactly}
+use Rattle.update.proofs.Several.{one-refusal, one-point, accepted}
 
 -- ---- steps and runs
 
@@ -30,8 +31,8 @@ record-within : (r : Record) (i k n : ℕ) (closed : Bool) → WithinLimits r �
 unfolding roundRecord
 record-within r i k n true w l m = record {
   nodes = w .nodes;
-  point = w .point;
-  part = w .part;
+  count = w .count;
+  numbers = w .numbers;
   rank = l;
   round = zero-le;
   circles = omega arith;
@@ -40,8 +41,8 @@ record-within r i k n true w l m = record {
 }
 record-within r i k n false w l m = record {
   nodes = w .nodes;
-  point = w .point;
-  part = w .part;
+  count = w .count;
+  numbers = w .numbers;
   rank = omega arith;
   round = m;
   circles = w .circles;
@@ -96,32 +97,25 @@ unfolding judgeTree judgeNodes
 some-node t [] owns s h = absurd (seven (eqb 0 (length owns)) h)
 some-node t (p ∷ ns) owns s h = omega arith
 
-size-most : (t ns : List ℕ) (k : ℕ) → size t ns k ≤ length ns
-unfolding size
-size-most t [] k = zero-le
-size-most t (p ∷ ns) zero = zero-le
-size-most t (p ∷ ns) (suc k) = omega (arith, size-most t ns (childCount t p + k))
-
-part-most : (t ns : List ℕ) (r : ℕ) → part t ns r ≤ length ns - r
-unfolding part
-part-most t ns r = rw (length-drop r ns) at (size-most t (drop r ns) 1)
-
 module _ (t : List ℕ) (m : Memory) (r : Record) where
   load-within : (ns owns : List ℕ) → loadRefusal t m r ns owns ≡ 0 → beyond (loadCall t m r ns owns .next) ≡ false
   unfolding loadCall
   load-within ns owns h =
       let c = all-exactly t m r .load ns owns .by0 .0 h .1 .1 .1 .1 in
-      rw h (all-open Load (length ns) 0 (length ns) .within (c .0) (some-node t ns owns 0 (c .1 .0)) (omega arith))
+      rw h (all-open Load (length ns) (loadPoint (length ns) ∷ []) .within (c .0) (omega arith) (omega arith)
+      (more {q = loadPoint (length ns)} zero-le (some-node t ns owns 0 (c .1 .0)) (omega arith) none))
+
+  points-within : (ps : List Part) → pointsRefusal t m r ps ≡ 0 → beyond (pointsCall t m r ps .next) ≡ false
+  unfolding pointsCall
+  points-within ps h =
+      let a = accepted t m r ps h in
+      let n : length (pointsRow t (nodesOf m (r .nodes)) ps) ≡ length ps = row-count t (nodesOf m (r .nodes)) 0 0 ps in
+      rw h (all-open Replacement (nodesLeft t m r ps) (pointsRow t (nodesOf m (r .nodes)) ps) .within (a .nodes) (omega (arith, a .some)) (omega (arith, a .few)) (a .apart))
 
   replace-within : (point : ℕ) (new newOwns : List ℕ) → replaceRefusal t m r point new newOwns ≡ 0 → beyond (replaceCall t m r point new newOwns .next) ≡ false
-  unfolding replaceCall
   replace-within point new newOwns h =
-      let c = all-exactly t m r .replace point new newOwns .by0 .0 h .1 .1 .1 .1 .1 .1 in
-      let p : part t (nodesOf m (r .nodes)) point ≤ min (r .nodes) (length (m .productions)) - point =
-      rw (length-take (r .nodes) (m .productions)) at (part-most t (nodesOf m (r .nodes)) point) in
-      let q : point < r .nodes = c .0 in
-      let n : 0 < length new = some-node t new newOwns _ (c .1 .1 .0) in
-      rw h (all-open Replacement (r .nodes - part t (nodesOf m (r .nodes)) point + length new) point (length new) .within (c .1 .0) (omega arith) (omega arith))
+      let p : Part = record { point = point; nodes = new; owns = newOwns } in
+      ap (λ (k : Left (Said Opened)). beyond (k .next)) (sym (one-point t m r p)) ∙ points-within (p ∷ []) (one-refusal t m r p ∙ h)
 
 pub all-open-within : AllOpenWithin
-all-open-within t m r = record { load = load-within t m r; replace = replace-within t m r }
+all-open-within t m r = record { load = load-within t m r; replace = replace-within t m r; points = points-within t m r }

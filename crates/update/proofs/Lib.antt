@@ -1,6 +1,8 @@
 pub mod Computed
 pub mod Checks
+pub mod Asking
 pub mod Refusing
+pub mod Several
 pub mod Leaving
 pub mod Within
 pub mod Meaning
@@ -10,3 +12,4 @@ pub mod Running
 pub mod Filled
 pub mod Ready
 pub mod Openings
+pub mod Arranging

@@ -2,7 +2,7 @@
 use mathlib.Core.Path.{_≡_, refl, sym, ap}
 use mathlib.Core.Bool.{Bool, true, false, not, _&&_, _||_, true≢false, or-true}
 use mathlib.Core.Logic.{_⊎_, inl, inr, ⊎-elim}
-use mathlib.Core.List.{List, [], _∷_, map}
+use mathlib.Core.List.{List, [], _∷_, map, List·Memᴰ·head, List·Memᴰ·tail}
 use Prim.Native.Nat.{ℕ, zero, suc, _+_, _≤_}
 use native.Mathlib.Omega.{arith}
 use lib.Dec.{eqb, ltb, leb}
@@ -15,36 +15,71 @@ use Rattle.climb.specs.System.{System}
 use Rattle.climb.specs.Circuit.{circleAt}
 use Rattle.climb.specs.Memory.{at}
 use Rattle.climb.proofs.Lists.{either, and-is}
+use Rattle.tree.specs.declared.Point.{Point}
+use Rattle.tree.specs.Points.{somePoint, everyPoint, survivesAt}
 use Rattle.wire.specs.Instances.{nodeOf, indexOf}
+use Rattle.wire.specs.Replaced.{sownBy}
 use Rattle.update.specs.declared.Record.{Record}
-use Rattle.update.specs.Records.{isLoad}
-use Rattle.update.specs.Memories.{belowPoint}
+use Rattle.update.specs.Records.{isLoad, pointsOf}
 use Rattle.update.specs.Steps.{sownOf, survives, changedOf, runOf}
-use Rattle.update.specs.Meaning.{Sown, in-load, at-point, below, SownExactly, Changed, ChangedExactly, LoadChanges, FirstIsLeast, NoBudget}
+use Rattle.update.specs.Meaning.{Among, Sown, in-load, at-point, below, SownExactly, Changed, ChangedExactly, LoadChanges, FirstIsLeast, NoBudget}
 
 -- ---- sown
 
+-- a point for which the test holds
+record Found (f : Point → Bool) (qs : List Point) : Type 0 where
+  q : Point
+  among : Among q qs
+  holds : f q ≡ true
+
+some-found : (f : Point → Bool) (qs : List Point) → somePoint f qs ≡ true → Found f qs
+some-found f [] h = absurd (true≢false (sym h))
+some-found f (q ∷ qs) h = ⊎-elim (λ p. record { q = q; among = List·Memᴰ·head refl; holds = p })
+    (λ p. let s = some-found f qs p in record { q = s .q; among = List·Memᴰ·tail (s .among); holds = s .holds }) (or-parts (f q) (somePoint f qs) h)
+
+found-some : (f : Point → Bool) (qs : List Point) (q : Point) → Among q qs → f q ≡ true → somePoint f qs ≡ true
+found-some f (p ∷ qs) q (List·Memᴰ·head e) h = let i : f p ≡ true = rw e at h in rw i
+found-some f (p ∷ qs) q (List·Memᴰ·tail m) h = rw (found-some f qs q m h) (or-true (f p))
+
 sown-to : (r : Record) (x : ℕ) → sownOf r x ≡ true → Sown r x
-unfolding sownOf belowPoint
-sown-to r x h = ⊎-elim
-    (λ a. ⊎-elim in-load (λ p. let q = and-is p in at-point (eqb-true (nodeOf x) (r .point) (q .0)) (ltb-true (indexOf x) 4 (q .1))) (or-parts (isLoad (r .«open»)) _ a))
-    (λ p. let q = and-is p in below (ltb-true (r .point) (nodeOf x) (q .0)) (ltb-true (nodeOf x) (r .point + r .part) (q .1))) (or-parts _ _ h)
+unfolding sownOf sownBy
+sown-to r x h = ⊎-elim in-load
+    (λ a. let s = some-found (λ q. sownBy (q .node) (q .count) x) (pointsOf r) a in
+    ⊎-elim
+    (λ p. let q = and-is p in at-point (s .q) (s .among) (eqb-true (nodeOf x) (s .q .node) (q .0)) (ltb-true (indexOf x) 4 (q .1)))
+    (λ p. let q = and-is p in below (s .q) (s .among) (ltb-true (s .q .node) (nodeOf x) (q .0)) (ltb-true (nodeOf x) (s .q .node + s .q .count) (q .1)))
+    (or-parts _ _ (s .holds)))
+    (or-parts (isLoad (r .«open»)) _ h)
 
 sown-from : (r : Record) (x : ℕ) → Sown r x → sownOf r x ≡ true
-unfolding sownOf belowPoint
+unfolding sownOf sownBy
 sown-from r x (in-load h) = rw h
-sown-from r x (at-point e l) = rw (eq-eqb (nodeOf x) (r .point) e, lt-ltb (indexOf x) 4 l, or-true (isLoad (r .«open»)))
-sown-from r x (below l m) = rw (lt-ltb (r .point) (nodeOf x) l, lt-ltb (nodeOf x) (r .point + r .part) m)
-    (or-true (isLoad (r .«open») || (eqb (nodeOf x) (r .point) && ltb (indexOf x) 4)))
+sown-from r x (at-point q a e l) =
+    rw (found-some (λ q. sownBy (q .node) (q .count) x) (pointsOf r) q a (rw (eq-eqb (nodeOf x) (q .node) e, lt-ltb (indexOf x) 4 l))) (or-true (isLoad (r .«open»)))
+sown-from r x (below q a l m) =
+    rw (found-some (λ q. sownBy (q .node) (q .count) x) (pointsOf r) q a (rw (lt-ltb (q .node) (nodeOf x) l, lt-ltb (nodeOf x) (q .node + q .count) m)
+    (or-true (eqb (nodeOf x) (q .node) && ltb (indexOf x) 4)))) (or-true (isLoad (r .«open»)))
 
 pub sown-exactly : SownExactly
 sown-exactly r x = (sown-to r x, sown-from r x)
 
 -- ---- changed
 
+every-at : (f : Point → Bool) (qs : List Point) → everyPoint f qs ≡ true → (q : Point) → Among q qs → f q ≡ true
+every-at f (p ∷ qs) h q (List·Memᴰ·head e) = rw e (and-is h .0)
+every-at f (p ∷ qs) h q (List·Memᴰ·tail m) = every-at f qs (and-is {a = f p} h .1) q m
+
+at-every : (f : Point → Bool) (qs : List Point) → ((q : Point) → Among q qs → f q ≡ true) → everyPoint f qs ≡ true
+at-every f [] h = refl
+at-every f (p ∷ qs) h = rw (h p (List·Memᴰ·head refl), at-every f qs (λ q m. h q (List·Memᴰ·tail m)))
+
 module _ (S : System) (r : Record) (before sets : List ℕ) (x : ℕ) where
   abbrev counted : Bool
   counted = S .declared x && survives r x && not (eqb (at sets x) (at before x))
+
+  outlives : (p : Point) → survivesAt p (nodeOf x) ≡ true → (nodeOf x ≤ p .node) ⊎ (p .node + p .count ≤ nodeOf x)
+  unfolding survivesAt
+  outlives p o = ⊎-elim (λ a. inl (leb-true (nodeOf x) (p .node) a)) (λ a. inr (leb-true (p .node + p .count) (nodeOf x) a)) (or-parts _ _ o)
 
   counted-to : counted ≡ true → Changed S r before sets x
   unfolding survives
@@ -53,14 +88,18 @@ module _ (S : System) (r : Record) (before sets : List ℕ) (x : ℕ) where
       let q = and-is (p .0) in
       record {
         declared = q .0;
-        survives = ⊎-elim (λ a. inl (leb-true (nodeOf x) (r .point) a)) (λ a. inr (leb-true (r .point + r .part) (nodeOf x) a)) (or-parts _ _ (q .1));
+        survives = λ p a. let o = every-at (λ p. survivesAt p (nodeOf x)) (pointsOf r) (q .1) p a in outlives p o;
         differs = eqb-false (at sets x) (at before x) (not-true (eqb (at sets x) (at before x)) (p .1));
       }
 
-  stays : (nodeOf x ≤ r .point) ⊎ (r .point + r .part ≤ nodeOf x) → survives r x ≡ true
+  stays-at : (p : Point) → (nodeOf x ≤ p .node) ⊎ (p .node + p .count ≤ nodeOf x) → survivesAt p (nodeOf x) ≡ true
+  unfolding survivesAt
+  stays-at p (inl l) = rw (le-leb (nodeOf x) (p .node) l)
+  stays-at p (inr l) = rw (le-leb (p .node + p .count) (nodeOf x) l) (or-true (leb (nodeOf x) (p .node)))
+
+  stays : ((p : Point) → Among p (pointsOf r) → (nodeOf x ≤ p .node) ⊎ (p .node + p .count ≤ nodeOf x)) → survives r x ≡ true
   unfolding survives
-  stays (inl l) = rw (le-leb (nodeOf x) (r .point) l)
-  stays (inr l) = rw (le-leb (r .point + r .part) (nodeOf x) l) (or-true (leb (nodeOf x) (r .point)))
+  stays h = at-every (λ p. survivesAt p (nodeOf x)) (pointsOf r) (λ p a. stays-at p (h p a))
 
   counted-from : Changed S r before sets x → counted ≡ true
   counted-from c = rw (c .declared, stays (c .survives), ne-eqb (at sets x) (at before x) (c .differs))

@@ -180,8 +180,8 @@ module _ (S : System) (R : List (List ℕ)) (r : Record) (before : List ℕ) (B 
   within-at : (i k : ℕ) (v : Assignment) → i ≤ length R → Phase S R (sownOf r) (at before) i k v → WithinLimits r → WithinLimits (recordAt S R r before i k)
   within-at i k v n g w = record {
     nodes = w .nodes;
-    point = w .point;
-    part = w .part;
+    count = w .count;
+    numbers = w .numbers;
     rank = omega (arith, B .few .count);
     round = few k g;
     circles = le-trans c (limits .circles);

@@ -1,10 +1,12 @@
 -- The engine's calls, each whole: for any table, tree, record and memory what it answers and what it leaves in the record and in every buffer.
 -- "A refusal returns its number and changes nothing lent." Assumes nothing.
-use mathlib.Core.List.{List}
+use mathlib.Core.List.{List, [], _∷_}
 use Prim.Native.Nat.{ℕ, zero, suc, _+_, _-_, _*_}
 use lib.ListN.{length}
 use Rattle.refusal.specs.Numbers.{numberOf}
+use Rattle.tree.specs.declared.Point.{Point}
 use Rattle.tree.specs.Replace.{part}
+use Rattle.tree.specs.Points.{Part, pointsRow}
 use Rattle.circles.specs.Ranked.{ranked, keep, upFrom}
 use Rattle.climb.specs.System.{System, graphOf}
 use Rattle.climb.specs.Memory.{at}
@@ -18,8 +20,8 @@ use Rattle.update.specs.declared.Run.the-variants.{Paused, Finished, Ref
 use Rattle.update.specs.declared.Reading.{Reading}
 use Rattle.update.specs.declared.Reading.the-variants.{Set, Refused as ReadRefused}
 use Rattle.update.specs.Records.{opened}
-use Rattle.update.specs.Memories.{Memory, nodesOf, ownsOf, loaded, replaced}
-use Rattle.update.specs.Refusals.{loadRefusal, replaceRefusal, stepRefusal, readRefusal}
+use Rattle.update.specs.Memories.{Memory, nodesOf, ownsOf, loaded, replaced, replacedRow}
+use Rattle.update.specs.Refusals.{loadRefusal, replaceRefusal, nodesLeft, pointsRefusal, stepRefusal, readRefusal}
 use Rattle.update.specs.Steps.{Outcome, round, done, Made, stepOf, Ending, paused, finished, Ran, runOf}
 
 -- ---- an answer is a refusal's number, or what was asked for
@@ -71,15 +73,28 @@ unless (suc n) r m left = record { answer = refused (suc n); next = r; memory = 
 pub data Opened : Type 0 where
   is-open : Opened
 
+-- a load's point: 0 and the node count
+abbrev pub loadPoint : ℕ → Point
+loadPoint n = record { node = 0; count = n }
+
 unfoldable pub loadCall : List ℕ → Memory → Record → List ℕ → List ℕ → Left (Said Opened)
 loadCall t m r ns owns =
-    unless (loadRefusal t m r ns owns) r m (leaving is-open (opened Load (length ns) 0 (length ns)) (loaded m ns owns))
+    unless (loadRefusal t m r ns owns) r m (leaving is-open (opened Load (length ns) (loadPoint (length ns) ∷ [])) (loaded m ns owns))
 
 unfoldable pub replaceCall : List ℕ → Memory → Record → ℕ → List ℕ → List ℕ → Left (Said Opened)
 replaceCall t m r point new newOwns =
     unless (replaceRefusal t m r point new newOwns) r m (leaving is-open
-    (opened Replacement (r .nodes - part t (nodesOf m (r .nodes)) point + length new) point (length new))
+    (opened Replacement (r .nodes - part t (nodesOf m (r .nodes)) point + length new) (record { node = point; count = length new } ∷ []))
     (replaced t m (r .nodes) point new newOwns))
+
+-- a replacement at one to eight points, each with its new part; the record has them by their numbers in the new tree
+unfoldable pub pointsCall : List ℕ → Memory → Record → List Part → Left (Said Opened)
+pointsCall t m r ps =
+    unless (pointsRefusal t m r ps) r m (record {
+      answer = said is-open;
+      next = opened Replacement (nodesLeft t m r ps) (pointsRow t (nodesOf m (r .nodes)) ps);
+      memory = replacedRow t m (r .nodes) ps;
+    })
 
 -- the system and the circles of the held tree
 abbrev pub systemOf : List ℕ → Memory → Record → System

@@ -6,5 +6,6 @@ pub mod Calls
 pub mod Refused
 pub mod Within
 pub mod Course
+pub mod Points
 pub mod Meaning
 pub mod Cases

@@ -2,7 +2,7 @@
 use mathlib.Core.Path.{_≡_}
 use mathlib.Core.Bool.{Bool, true, false}
 use mathlib.Core.Logic.{_⊎_, _↔_, _≢_}
-use mathlib.Core.List.{List}
+use mathlib.Core.List.{List, List·Memᴰ}
 use Prim.Native.Nat.{ℕ, _+_, _≤_, _<_}
 use lib.ListN.{length, getD}
 use Rattle.circles.specs.Graph.{Graph}
@@ -10,24 +10,29 @@ use Rattle.circles.specs.Ranked.{member, keep, upFrom, ranked}
 use Rattle.climb.specs.System.{System}
 use Rattle.climb.specs.Circuit.{circleAt}
 use Rattle.climb.specs.Memory.{at}
+use Rattle.tree.specs.declared.Point.{Point}
 use Rattle.wire.specs.Instances.{nodeOf, indexOf}
 use Rattle.update.specs.declared.Record.{Record}
-use Rattle.update.specs.Records.{isLoad}
+use Rattle.update.specs.Records.{isLoad, pointsOf}
 use Rattle.update.specs.Steps.{sownOf, changedOf, paused, runOf}
+
+-- q is one of the points
+abbrev pub Among : Point → List Point → Type 0
+Among q qs = List·Memᴰ q qs
 
 -- "Sown instances: r's synthesized ones and all below r; in a load, all."
 pub data Sown (r : Record) (x : ℕ) : Type 0 where
   in-load : isLoad (r .«open») ≡ true → Sown r x
-  at-point : nodeOf x ≡ r .point → indexOf x < 4 → Sown r x
-  below : r .point < nodeOf x → nodeOf x < r .point + r .part → Sown r x
+  at-point : (q : Point) → Among q (pointsOf r) → nodeOf x ≡ q .node → indexOf x < 4 → Sown r x
+  below : (q : Point) → Among q (pointsOf r) → q .node < nodeOf x → nodeOf x < q .node + q .count → Sown r x
 
 abbrev pub SownExactly : Type 0
 SownExactly = (r : Record) (x : ℕ) → (sownOf r x ≡ true) ↔ Sown r x
 
--- "changed: surviving instances, r's included, whose value differs from before": nodes up to r, and those behind the new part
+-- what done counts as changed: an instance that survives, of each point up to it or behind its new part, and whose value is another than before
 pub record Changed (S : System) (r : Record) (before sets : List ℕ) (x : ℕ) : Type 0 where
   pub declared : S .declared x ≡ true
-  pub survives : (nodeOf x ≤ r .point) ⊎ (r .point + r .part ≤ nodeOf x)
+  pub survives : (q : Point) → Among q (pointsOf r) → (nodeOf x ≤ q .node) ⊎ (q .node + q .count ≤ nodeOf x)
   pub differs : at sets x ≢ at before x
 
 -- their number, by whatever test tells them

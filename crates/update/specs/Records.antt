@@ -1,8 +1,13 @@
 -- The update record and its limits. Assumes nothing.
 use mathlib.Core.Path.{_≡_}
 use mathlib.Core.Bool.{Bool, true, false, _&&_, _||_}
-use Prim.Native.Nat.{ℕ, _+_}
-use lib.Dec.{ltb, leb}
+use mathlib.Core.List.{List, [], _∷_, _++_}
+use Prim.Native.Nat.{ℕ, _+_, _-_, max}
+use lib.Dec.{eqb, ltb, leb}
+use lib.ListN.{length, replicate}
+use Rattle.tree.specs.declared.Point.{Point}
+use Rattle.tree.specs.Points.{somePoint}
+use Rattle.tree.specs.Handed.{placesFrom}
 use Rattle.update.specs.declared.Open.{Open}
 use Rattle.update.specs.declared.Open.the-variants.{Nothing, Load, Replacement}
 use Rattle.update.specs.declared.Record.{Record}
@@ -10,6 +15,10 @@ use Rattle.update.specs.declared.Record.{Record}
 -- "Its limits are constants that belong to the record: 512 nodes, 4,092 circles, round 262,145, evaluations 1,073,745,920."
 abbrev pub nodesMost : ℕ
 nodesMost = 512
+
+-- so many points have a place in the record
+abbrev pub pointsMost : ℕ
+pointsMost = 8
 
 abbrev pub circlesMost : ℕ
 circlesMost = 4092
@@ -30,29 +39,50 @@ isLoad Nothing = false
 isLoad Load = true
 isLoad Replacement = false
 
--- "11: a record field is beyond its limit, or an open record's point or new part lies outside the tree"
+-- a place of the array that no point has
+abbrev pub nowhere : Point
+nowhere = record { node = 0; count = 0 }
+
+-- the array of the points qs; places that none has are zero
+unfoldable pub padded : List Point → List Point
+padded qs = qs ++ replicate (8 - length qs) nowhere
+
+-- the points of a record: as many as it says
+abbrev pub pointsOf : Record → List Point
+pointsOf r = placesFrom 0 (r .count) (r .points)
+
+-- a number of a point beyond the limit
+abbrev pub large : Point → Bool
+large q = ltb nodesMost (q .node) || ltb nodesMost (q .count)
+
+-- of a tree of so many nodes: a point before `from`, or a point or part outside the tree, or points behind that don't rise or lie in a part
+unfoldable pub astray : ℕ → ℕ → List Point → Bool
+astray nodes from [] = false
+astray nodes from (q ∷ qs) = ltb (q .node) from || leb nodes (q .node) || ltb nodes (q .node + q .count) || astray nodes (q .node + max 1 (q .count)) qs
+
+-- 11: a number of the record is beyond its limit, any of the points' too, used or not; or an update is open and has no point, a point or part outside the tree, or points that don't rise or lie apart
 unfoldable pub beyond : Record → Bool
 beyond r =
     ltb nodesMost (r .nodes)
-    || ltb nodesMost (r .point)
-    || ltb nodesMost (r .part)
+    || ltb pointsMost (r .count)
+    || somePoint large (placesFrom 0 8 (r .points))
     || ltb circlesMost (r .rank)
     || ltb roundMost (r .round)
     || ltb circlesMost (r .circles)
     || ltb evaluationsMost (r .evaluations)
-    || isOpen (r .«open») && (leb (r .nodes) (r .point) || ltb (r .nodes) (r .point + r .part))
+    || isOpen (r .«open») && (eqb (r .count) 0 || astray (r .nodes) 0 (pointsOf r))
 
 -- "With no update open, all but the first three are zero."
 unfoldable pub shut : Bool → ℕ → Record
-shut held nodes = record { held = held; «open» = Nothing; nodes = nodes; point = 0; part = 0; rank = 0; round = 0; circles = 0; evaluations = 0 }
+shut held nodes = record { held = held; «open» = Nothing; nodes = nodes; count = 0; points = replicate 8 nowhere; rank = 0; round = 0; circles = 0; evaluations = 0 }
 
 unfoldable pub emptyRecord : Record
 unfolding shut
 emptyRecord = shut false 0
 
 -- "A record just opened has rank and round 0", and has counted nothing
-unfoldable pub opened : Open → ℕ → ℕ → ℕ → Record
-opened o nodes point part = record { held = true; «open» = o; nodes = nodes; point = point; part = part; rank = 0; round = 0; circles = 0; evaluations = 0 }
+unfoldable pub opened : Open → ℕ → List Point → Record
+opened o nodes qs = record { held = true; «open» = o; nodes = nodes; count = length qs; points = padded qs; rank = 0; round = 0; circles = 0; evaluations = 0 }
 
 -- the same update with other numbers of the work
 abbrev pub working : Record → ℕ → ℕ → ℕ → ℕ → Record
@@ -60,8 +90,8 @@ working r rank round circles evaluations = record {
   held = r .held;
   «open» = r .«open»;
   nodes = r .nodes;
-  point = r .point;
-  part = r .part;
+  count = r .count;
+  points = r .points;
   rank = rank;
   round = round;
   circles = circles;

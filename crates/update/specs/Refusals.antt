@@ -1,19 +1,20 @@
 -- What each call refuses, in document 01's order: of a list of numbers the first that is not 0. Assumes nothing.
 use mathlib.Core.Bool.{Bool, cond, not, _||_}
-use mathlib.Core.List.{List, [], _∷_}
+use mathlib.Core.List.{List, [], _∷_, map}
 use Prim.Native.Nat.{ℕ, _+_, _-_}
-use lib.Dec.{ltb, leb}
+use lib.Dec.{eqb, ltb, leb}
 use lib.ListN.{length, getD}
 use Rattle.table.specs.First.{first}
 use Rattle.table.specs.Words.{leftOf}
 use Rattle.table.specs.Judge.{judgeTable}
 use Rattle.tree.specs.Tree.{judgeTree}
 use Rattle.tree.specs.Replace.{part}
+use Rattle.tree.specs.Points.{Part, nodesRow, leavingRow, comingRow, somePart, overlaps}
 use Rattle.wire.specs.Instances.{declared}
 use Rattle.wire.specs.Replaced.{nodesAfter}
 use Rattle.wire.specs.Waivers.{waives}
 use Rattle.update.specs.declared.Record.{Record}
-use Rattle.update.specs.Records.{nodesMost, isOpen, beyond}
+use Rattle.update.specs.Records.{nodesMost, pointsMost, isOpen, beyond}
 use Rattle.update.specs.Memories.{Memory, nodesOf, ownsOf}
 
 -- the first refusal of a list, 0 where there is none
@@ -52,6 +53,35 @@ replaceRefusal t m r point new newOwns =
     firstRefusal (when (short m) 15 ∷ judgeTable t ∷ when (beyond r) 11 ∷ when (isOpen (r .«open»)) 10 ∷ when (not (r .held)) 16 ∷ heldRefusal t m r
     ∷ when (leb (r .nodes) point) 9 ∷ when (passes t m r point new) 8 ∷ judgeTree t new newOwns (leftOf t (getD (nodesOf m (r .nodes)) point 0))
     ∷ when (waives t (nodesThen t m r point new)) 21 ∷ [])
+
+-- ---- several points
+
+-- 22: no point, or more than eight
+unfoldable pub miscounted : List Part → Bool
+miscounted ps = eqb (length ps) 0 || ltb pointsMost (length ps)
+
+-- 9: some point isn't below the node count
+unfoldable pub missing : ℕ → List Part → Bool
+missing nodes ps = somePart (λ p. leb nodes (p .point)) ps
+
+-- the nodes of the tree that the row would leave, by the counts: 8 looks at these alone
+unfoldable pub nodesLeft : List ℕ → Memory → Record → List Part → ℕ
+nodesLeft t m r ps = r .nodes - leavingRow t (nodesOf m (r .nodes)) ps + comingRow ps
+
+-- a part's number, 6 or 7: its root is to have the symbol of the node that it replaces
+abbrev pub partRefusal : List ℕ → List ℕ → Part → ℕ
+partRefusal t ns p = judgeTree t (p .nodes) (p .owns) (leftOf t (getD ns (p .point) 0))
+
+-- that of the first part that has one
+unfoldable pub partsRefusal : List ℕ → List ℕ → List Part → ℕ
+partsRefusal t ns ps = firstRefusal (map (partRefusal t ns) ps)
+
+-- the order of a row: 22 stands before 16, 23 behind 9, and 8 looks at the final tree
+unfoldable pub pointsRefusal : List ℕ → Memory → Record → List Part → ℕ
+pointsRefusal t m r ps =
+    firstRefusal (when (short m) 15 ∷ judgeTable t ∷ when (beyond r) 11 ∷ when (isOpen (r .«open»)) 10 ∷ when (miscounted ps) 22 ∷ when (not (r .held)) 16 ∷ heldRefusal t m r
+    ∷ when (missing (r .nodes) ps) 9 ∷ when (overlaps t (nodesOf m (r .nodes)) 0 ps) 23 ∷ when (ltb nodesMost (nodesLeft t m r ps)) 8
+    ∷ partsRefusal t (nodesOf m (r .nodes)) ps ∷ when (waives t (nodesRow t (nodesOf m (r .nodes)) ps)) 21 ∷ [])
 
 -- "Step and run 15, 1 to 5, 11, 16, 6/7, 17."
 unfoldable pub stepRefusal : List ℕ → Memory → Record → ℕ

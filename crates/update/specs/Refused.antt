@@ -9,6 +9,8 @@ use Rattle.table.specs.Words.{leftOf}
 use Rattle.table.specs.Judge.{judgeTable}
 use Rattle.tree.specs.Tree.{judgeTree}
 use Rattle.tree.specs.Replace.{part}
+use Rattle.tree.specs.Points.{Part, partAt, nodesRow}
+use Rattle.tree.specs.PointLaws.{Overlap}
 use Rattle.circles.specs.Graph.{_∈_}
 use Rattle.circles.specs.Ranked.{member}
 use Rattle.wire.specs.Instances.{declared}
@@ -17,8 +19,8 @@ use Rattle.wire.specs.Waivers.{Waiver, Free}
 use Rattle.update.specs.declared.Record.{Record}
 use Rattle.update.specs.Records.{isOpen, beyond}
 use Rattle.update.specs.Memories.{Memory, nodesOf}
-use Rattle.update.specs.Calls.{Said, refused, said, Left, loadCall, replaceCall, stepCall, runCall, readCall}
-use Rattle.update.specs.Refusals.{firstRefusal, short, heldRefusal, loadRefusal, replaceRefusal, stepRefusal, readRefusal, dumpRefusal}
+use Rattle.update.specs.Calls.{Said, refused, said, Left, loadCall, replaceCall, pointsCall, stepCall, runCall, readCall}
+use Rattle.update.specs.Refusals.{firstRefusal, short, heldRefusal, loadRefusal, replaceRefusal, nodesLeft, partsRefusal, pointsRefusal, stepRefusal, readRefusal, dumpRefusal}
 
 -- ---- any call: of the numbers in its order, the first that is not 0
 
@@ -63,6 +65,32 @@ replacedNodes t m r point new = r .nodes - part t (nodesOf m (r .nodes)) point +
 abbrev pub newRefusal : List ℕ → Memory → Record → ℕ → List ℕ → List ℕ → ℕ
 newRefusal t m r point new newOwns = judgeTree t new newOwns (leftOf t (getD (nodesOf m (r .nodes)) point 0))
 
+-- of several points: none, or more than eight; or else one to eight
+abbrev pub Miscounted : List Part → Type 0
+Miscounted ps = (length ps ≡ 0) ⊎ (8 < length ps)
+
+abbrev pub Counted : List Part → Type 0
+Counted ps = (0 < length ps) × (length ps ≤ 8)
+
+-- one of them is no node of a tree of so many; or else all are
+abbrev pub Missing : ℕ → List Part → Type 0
+Missing nodes ps = (i : ℕ) × (i < length ps) × (nodes ≤ partAt ps i .point)
+
+abbrev pub Present : ℕ → List Part → Type 0
+Present nodes ps = (i : ℕ) → i < length ps → partAt ps i .point < nodes
+
+-- no two of them meet
+abbrev pub Separate : List ℕ → List ℕ → List Part → Type 0
+Separate t ns ps = Overlap t ns ps → ⊥
+
+-- where their number is right, and a tree is held and passes
+abbrev pub counted : List ℕ → Memory → Record → List Part → Type 0 → Type 0
+counted t m r ps Rest = sound t m r (isOpen (r .«open») ≡ false and Counted ps and r .held ≡ true and heldRefusal t m r ≡ 0 and Rest)
+
+-- and where besides all of them are nodes, rise and lie apart
+abbrev pub placed : List ℕ → Memory → Record → List Part → Type 0 → Type 0
+placed t m r ps Rest = counted t m r ps (Present (r .nodes) ps and Separate t (nodesOf m (r .nodes)) ps and Rest)
+
 -- the numbers that come first in every call
 pub record FirstGives (t : List ℕ) (m : Memory) (r : Record) (given : ℕ) : Type 0 where
   pub by1to5 : (n : ℕ) → 1 ≤ n → n ≤ 5 → (given ≡ n) ↔ (short m ≡ false and judgeTable t ≡ n)
@@ -94,6 +122,25 @@ pub record ReplaceGives (t : List ℕ) (m : Memory) (r : Record) (point : ℕ) (
   pub by0 : (given ≡ 0) ↔ atRest t m r (point < r .nodes and replacedNodes t m r point new ≤ 512 and newRefusal t m r point new newOwns ≡ 0
       and Free t (nodesAfter t (nodesOf m (r .nodes)) new point))
   pub among : member (0 ∷ 15 ∷ 1 ∷ 2 ∷ 3 ∷ 4 ∷ 5 ∷ 11 ∷ 10 ∷ 16 ∷ 6 ∷ 7 ∷ 9 ∷ 8 ∷ 6 ∷ 7 ∷ 21 ∷ []) given ≡ true
+
+-- the order of a row: 22 before 16, 23 behind 9, 8 by the final tree, then the parts one after the other, then 21
+pub record PointsGives (t : List ℕ) (m : Memory) (r : Record) (ps : List Part) (given : ℕ) : Type 0 where
+  pub by15 : (given ≡ 15) ↔ (short m ≡ true)
+  pub early : FirstGives t m r given
+  pub by10 : (given ≡ 10) ↔ sound t m r (isOpen (r .«open») ≡ true)
+  pub by22 : (given ≡ 22) ↔ sound t m r (isOpen (r .«open») ≡ false and Miscounted ps)
+  pub by16 : (given ≡ 16) ↔ sound t m r (isOpen (r .«open») ≡ false and Counted ps and r .held ≡ false)
+  pub by6or7 : (n : ℕ) → 6 ≤ n → n ≤ 7 → (given ≡ n) ↔ sound t m r (isOpen (r .«open») ≡ false and Counted ps and r .held ≡ true and ((heldRefusal t m r ≡ n)
+      ⊎ (heldRefusal t m r ≡ 0 and Present (r .nodes) ps and Separate t (nodesOf m (r .nodes)) ps and nodesLeft t m r ps ≤ 512
+      and partsRefusal t (nodesOf m (r .nodes)) ps ≡ n)))
+  pub by9 : (given ≡ 9) ↔ counted t m r ps (Missing (r .nodes) ps)
+  pub by23 : (given ≡ 23) ↔ counted t m r ps (Present (r .nodes) ps and Overlap t (nodesOf m (r .nodes)) ps)
+  pub by8 : (given ≡ 8) ↔ placed t m r ps (512 < nodesLeft t m r ps)
+  pub by21 : (given ≡ 21) ↔ placed t m r ps (nodesLeft t m r ps ≤ 512 and partsRefusal t (nodesOf m (r .nodes)) ps ≡ 0
+      and Waiver t (nodesRow t (nodesOf m (r .nodes)) ps))
+  pub by0 : (given ≡ 0) ↔ placed t m r ps (nodesLeft t m r ps ≤ 512 and partsRefusal t (nodesOf m (r .nodes)) ps ≡ 0
+      and Free t (nodesRow t (nodesOf m (r .nodes)) ps))
+  pub among : member (0 ∷ 15 ∷ 1 ∷ 2 ∷ 3 ∷ 4 ∷ 5 ∷ 11 ∷ 10 ∷ 22 ∷ 16 ∷ 6 ∷ 7 ∷ 9 ∷ 23 ∷ 8 ∷ 6 ∷ 7 ∷ 21 ∷ []) given ≡ true
 
 -- "Step and run 15, 1 to 5, 11, 16, 6/7, 17."
 pub record StepGives (t : List ℕ) (m : Memory) (r : Record) (given : ℕ) : Type 0 where
@@ -130,6 +177,7 @@ pub record DumpGives (t : List ℕ) (m : Memory) (r : Record) (room wanted given
 pub record GivenExactly (t : List ℕ) (m : Memory) (r : Record) : Type 0 where
   pub load : (ns owns : List ℕ) → LoadGives t m r ns owns (loadRefusal t m r ns owns)
   pub replace : (point : ℕ) (new newOwns : List ℕ) → ReplaceGives t m r point new newOwns (replaceRefusal t m r point new newOwns)
+  pub points : (ps : List Part) → PointsGives t m r ps (pointsRefusal t m r ps)
   pub step : StepGives t m r (stepRefusal t m r)
   pub read : (x : ℕ) → ReadGives t m r x (readRefusal t m r x)
   pub dump : (room wanted : ℕ) → DumpGives t m r room wanted (dumpRefusal t m r room wanted)
@@ -152,6 +200,7 @@ pub record ReadLeaves (n : ℕ) (answer : Said ℕ) : Type 0 where
 pub record CallsLeave (t : List ℕ) (m : Memory) (r : Record) : Type 0 where
   pub load : (ns owns : List ℕ) → Leaves (loadRefusal t m r ns owns) r m (loadCall t m r ns owns)
   pub replace : (point : ℕ) (new newOwns : List ℕ) → Leaves (replaceRefusal t m r point new newOwns) r m (replaceCall t m r point new newOwns)
+  pub points : (ps : List Part) → Leaves (pointsRefusal t m r ps) r m (pointsCall t m r ps)
   pub step : Leaves (stepRefusal t m r) r m (stepCall t m r)
   pub run : (budget : ℕ) → Leaves (stepRefusal t m r) r m (runCall t m r budget)
   pub read : (x : ℕ) → ReadLeaves (readRefusal t m r x) (readCall t m r x)

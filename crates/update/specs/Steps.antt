@@ -2,25 +2,26 @@
 use mathlib.Core.Bool.{Bool, cond, not, _&&_, _||_}
 use mathlib.Core.List.{List}
 use Prim.Native.Nat.{ℕ, zero, suc, _+_, _-_, min}
-use lib.Dec.{eqb, ltb, leb}
+use lib.Dec.{eqb, ltb}
 use lib.ListN.{length, getD}
 use Rattle.circles.specs.Ranked.{allOf, keep, upFrom, loneOf}
 use Rattle.climb.specs.System.{System, graphOf}
 use Rattle.climb.specs.Climb.{leastFrom}
 use Rattle.climb.specs.Circuit.{circleAt, dueOf}
 use Rattle.climb.specs.Memory.{at, emptyOn, roundOn}
-use Rattle.wire.specs.Instances.{nodeOf, indexOf}
+use Rattle.tree.specs.Points.{isOld}
+use Rattle.wire.specs.Instances.{nodeOf}
+use Rattle.wire.specs.Points.{sownAt}
 use Rattle.update.specs.declared.Record.{Record}
-use Rattle.update.specs.Records.{circlesMost, roundMost, evaluationsMost, isLoad, shut, working}
-use Rattle.update.specs.Memories.{belowPoint}
+use Rattle.update.specs.Records.{circlesMost, roundMost, evaluationsMost, isLoad, pointsOf, shut, working}
 
--- "Sown instances: r's synthesized ones and all below r; in a load, all."
+-- sown: in a load every instance; else the synthesized ones of each point, and all below it in its part
 unfoldable pub sownOf : Record → ℕ → Bool
-sownOf r x = isLoad (r .«open») || (eqb (nodeOf x) (r .point) && ltb (indexOf x) 4) || belowPoint (r .point) (r .part) (nodeOf x)
+sownOf r x = isLoad (r .«open») || sownAt (pointsOf r) x
 
 -- "changed: surviving instances, r's included, whose value differs from before. For a load, changed is 0."
 unfoldable pub survives : Record → ℕ → Bool
-survives r x = leb (nodeOf x) (r .point) || leb (r .point + r .part) (nodeOf x)
+survives r x = isOld (pointsOf r) (nodeOf x)
 
 unfoldable pub changedOf : System → Record → List ℕ → List ℕ → ℕ
 changedOf S r before sets =

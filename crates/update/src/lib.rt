@@ -1,5 +1,6 @@
 // The update record that the caller lends, and what the engine's calls answer.
 use refusal::Refusal;
+use tree::Point;
 ghost use Rattle.update.specs.Records.{EmptySays};
 
 // No update, load or replacement open.
@@ -15,9 +16,10 @@ pub struct Record {
     pub open: Open,
     // node count of the held tree
     pub nodes: usize,
-    // point r and the new part's count; 0 and the node count for a load
-    pub point: usize,
-    pub part: usize,
+    // how many points the open update has, and each by its number in the new tree with its new part's count; a load has one, 0 and the node count.
+    // The others are zero
+    pub count: usize,
+    pub points: [Point; 8],
     // the rank of the circle at work, and its round
     pub rank: usize,
     pub round: u64,
@@ -28,6 +30,8 @@ pub struct Record {
 
 impl Record {
     pub const NODES: usize = 512;
+
+    pub const POINTS: usize = 8;
 
     pub const CIRCLES: u64 = 4_092;
 
@@ -43,8 +47,8 @@ impl Record {
             held: false,
             open: Open::Nothing,
             nodes: 0,
-            point: 0,
-            part: 0,
+            count: 0,
+            points: [Point { node: 0, count: 0 }; 8],
             rank: 0,
             round: 0,
             circles: 0,

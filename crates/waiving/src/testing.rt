@@ -1,18 +1,18 @@
 // The test for 21. A table without operation 9 pays for a look at its heads alone.
 use crate::preparing::prepare;
-use buffers::write_nodes;
-use memory::placing::exchange_nodes;
+use buffers::copy_nodes;
+use memory::placing::splice_nodes;
 use table::head_at;
 use table::production_count;
+use tree::Cuts;
 ghost use mathlib.Core.Path.{_≡_};
 ghost use Prim.Native.Nat.{_<_, _≤_};
-ghost use lib.ListN.{length, take};
+ghost use lib.ListN.{length};
 ghost use Rattle.table.specs.Words.{productionCount};
+ghost use Rattle.memory.specs.Pieces.{splicedBy, Fitting};
 ghost use Rattle.wire.specs.ArrayLaws.{waivesAt, waivesIn};
-ghost use Rattle.wire.specs.Replaced.{nodesAfter};
 ghost use Rattle.wire.specs.Turns.{Held};
 ghost use Rattle.wire.specs.Waivers.{waives};
-ghost use Rattle.waiving.specs.Exchanging.{Exchanging};
 ghost use Rattle.waiving.specs.Nines.{isNine, nineIn};
 ghost use Rattle.waiving.specs.Prepared.{Tested};
 
@@ -124,31 +124,23 @@ pub fn waives_tree(table: &[u64; 2657], tree: &[u8]) -> bool
     if has_nine(table) {
         let count = tree.len();
         let mut nodes = [0u8; 512];
-        write_nodes(&mut nodes, 0, tree);
+        copy_nodes(&mut nodes, 0, tree, 0, count);
         return waives_wired(table, &nodes[..count]);
     }
     false
 }
 
 // The same of the tree as a replacement would leave it. Nothing lent may change before all is accepted, so its nodes are written to memory of their own.
-pub fn waives_then(
-    table: &[u64; 2657],
-    held: &[u8],
-    nodes: usize,
-    point: usize,
-    old: usize,
-    new: &[u8],
-) -> bool
-    requires { ⌜ nodes ≤ length (now held) ⌝ }
-    requires { ⌜ Exchanging (now table) (take nodes (now held)) point old (now new) ⌝ }
-    ensures { λ r. ⌜ r ≡ waives (now (table .entry)) (nodesAfter (now (table .entry)) (take nodes (now (held .entry))) (now (new .entry)) point) ⌝ }
+pub fn waives_then(table: &[u64; 2657], tree: &[u8], cuts: Cuts, new: &[u8]) -> bool
+    requires { ⌜ Fitting cuts (length (now tree)) (length (now new)) ⌝ }
+    requires { ⌜ Held (now table) (splicedBy cuts (now new) (now tree)) ⌝ }
+    ensures { λ r. ⌜ r ≡ waives (now (table .entry)) (splicedBy cuts (now (new .entry)) (now (tree .entry))) ⌝ }
 {
     if has_nine(table) {
-        let count = nodes - old + new.len();
-        let mut tree = [0u8; 512];
-        write_nodes(&mut tree, 0, &held[..nodes]);
-        exchange_nodes(&mut tree, nodes, point, old, new);
-        return waives_wired(table, &tree[..count]);
+        let nodes = tree.len();
+        let mut after = [0u8; 512];
+        let count = splice_nodes(tree, nodes, cuts, new, &mut after);
+        return waives_wired(table, &after[..count]);
     }
     false
 }

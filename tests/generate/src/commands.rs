@@ -2,27 +2,32 @@
 
 use crate::chance::Chance;
 use crate::growth::{end_of, grow, is_sound, symbol_of, Node};
+use crate::points::{spoil_part, Exchange, Met, Row, POINTS};
 use crate::rules::Rules;
 use crate::session::Size;
 use crate::text::Text;
 use crate::waivers;
 
-const NODES: usize = 512;
+/// The most nodes that a tree may have.
+pub const NODES: usize = 512;
 
 /// What the generator thinks the session holds, so that it can draw corrections of it.
-struct Desk<'a> {
-    rules: &'a Rules,
-    size: Size,
-    held: Vec<Node>,
-    text: &'a mut Text,
+pub struct Desk<'a> {
+    pub rules: &'a Rules,
+    pub size: Size,
+    pub held: Vec<Node>,
+    pub text: &'a mut Text,
+    pub met: Met,
 }
 
-pub fn write(chance: &mut Chance, rules: &Rules, size: Size, text: &mut Text) {
-    let mut desk = Desk { rules, size, held: Vec::new(), text };
+/// Writes commands; answers what their rows of points should have met.
+pub fn write(chance: &mut Chance, rules: &Rules, size: Size, text: &mut Text) -> Met {
+    let mut desk = Desk { rules, size, held: Vec::new(), text, met: Met::default() };
     desk.draw(chance);
     if !chance.one_in(3) {
         desk.dump();
     }
+    desk.met
 }
 
 impl Desk<'_> {
@@ -32,12 +37,16 @@ impl Desk<'_> {
             self.good_load(chance);
         }
         for _ in 0..chance.between(0, self.size.commands()) {
-            match chance.below(18) {
+            match chance.below(24) {
                 0 => self.good_load(chance),
                 1 => self.poor_load(chance),
-                2..=9 => self.correct(chance),
-                10 | 11 => self.poor_correction(chance),
-                12 | 13 => self.circular_correction(chance),
+                2..=7 => self.correct(chance),
+                8 | 9 => self.poor_correction(chance),
+                10 => self.circular_correction(chance, Self::single),
+                11..=14 => self.correct_several(chance),
+                15 | 16 => self.poor_row(chance),
+                17 | 18 => self.circular_correction(chance, Self::row),
+                19 => self.made_good_row(chance),
                 _ => self.dump(),
             }
         }
@@ -73,9 +82,14 @@ impl Desk<'_> {
         if self.held.is_empty() {
             return self.poor_correction(chance);
         }
+        let row = self.single(chance);
+        self.replace(chance, &row);
+    }
+
+    /// A row of one point.
+    fn single(&self, chance: &mut Chance) -> Row {
         let point = self.point(chance);
-        let part = self.part(chance, point);
-        self.replace(point, &part);
+        vec![Exchange { point, part: self.part(chance, point, self.held.len()) }]
     }
 
     fn poor_correction(&mut self, chance: &mut Chance) {
@@ -89,27 +103,28 @@ impl Desk<'_> {
             0 if point < count => self.past_the_limit(chance, point),
             1 => vec![Node { production: self.any_production(chance), own: chance.set() }],
             _ if point < count => {
-                let part = self.part(chance, point);
+                let part = self.part(chance, point, count);
                 self.spoilt(chance, part)
             }
             _ => self.spoilt(chance, Vec::new()),
         };
-        self.replace(point, &part);
+        self.replace(chance, &[Exchange { point, part }]);
     }
 
     /// A correction with which the tree would have a waiver inside a circle, if some tries find
     /// one: of those that only have to fit few are such.
-    fn circular_correction(&mut self, chance: &mut Chance) {
+    fn circular_correction(&mut self, chance: &mut Chance, draw: fn(&Self, &mut Chance) -> Row) {
         if self.held.is_empty() {
             return self.poor_correction(chance);
         }
         for _ in 0..30 {
-            let point = self.point(chance);
-            let part = self.part(chance, point);
-            if !self.allows(&self.corrected(point, &part)) {
-                // With a fault of the part's own besides, that one counts.
-                let part = if chance.one_in(3) { self.spoilt(chance, part) } else { part };
-                return self.replace(point, &part);
+            let mut row = draw(self, chance);
+            if !self.allows(&self.corrected(&row)) {
+                // With a fault of a part's own besides, that one counts.
+                if chance.one_in(3) {
+                    spoil_part(self, chance, &mut row);
+                }
+                return self.replace(chance, &row);
             }
         }
         self.correct(chance);
@@ -120,21 +135,20 @@ impl Desk<'_> {
     }
 
     /// Any node, but often one near the leaves, as a clerk's corrections are.
-    fn point(&self, chance: &mut Chance) -> usize {
+    pub fn point(&self, chance: &mut Chance) -> usize {
         let count = self.held.len();
         let mut point = chance.below(count);
         if chance.one_in(2) {
-            let is_leaf = |&at: &usize| end_of(self.rules, &self.held, at) == at + 1;
+            let is_leaf = |&at: &usize| self.end(at) == at + 1;
             point = (point..count).find(is_leaf).unwrap_or(point);
         }
         chance.pick(&[point, point, point, point, point, point, point, 0, count - 1])
     }
 
-    /// A part that fits at the point.
-    fn part(&self, chance: &mut Chance, point: usize) -> Vec<Node> {
-        let end = end_of(self.rules, &self.held, point);
-        let old = self.held[point..end].to_vec();
-        let room = NODES - (self.held.len() - old.len());
+    /// A part that fits at the point of a tree which has this many nodes, be it by other points.
+    pub fn part(&self, chance: &mut Chance, point: usize, nodes: usize) -> Vec<Node> {
+        let old = self.held[point..self.end(point)].to_vec();
+        let room = (NODES + old.len()).saturating_sub(nodes).max(1);
         let target = match chance.below(8) {
             0 => return old,
             1 | 2 => return with_other_owns(chance, old),
@@ -149,13 +163,22 @@ impl Desk<'_> {
 
     /// A sound part with which the tree would have just one node too many, if the table can.
     fn past_the_limit(&self, chance: &mut Chance, point: usize) -> Vec<Node> {
-        let kept = self.held.len() - (end_of(self.rules, &self.held, point) - point);
-        let symbol = symbol_of(self.rules, self.held[point]);
-        grow(chance, self.rules, symbol, NODES + 1 - kept).unwrap_or_default()
+        let kept = self.held.len() - (self.end(point) - point);
+        self.grown(chance, point, NODES + 1 - kept).unwrap_or_default()
+    }
+
+    /// A part of the symbol at the point with about so many nodes.
+    pub fn grown(&self, chance: &mut Chance, point: usize, target: usize) -> Option<Vec<Node>> {
+        grow(chance, self.rules, symbol_of(self.rules, self.held[point]), target)
+    }
+
+    /// One past the last node of the old part at a point.
+    pub fn end(&self, point: usize) -> usize {
+        end_of(self.rules, &self.held, point)
     }
 
     /// More nodes than a tree may have, sound or not; rarely as many as a frame can announce.
-    fn too_many(&self, chance: &mut Chance) -> Vec<Node> {
+    pub fn too_many(&self, chance: &mut Chance) -> Vec<Node> {
         let count = match chance.below(60) {
             0 => 0xffff,
             1..=9 => chance.between(NODES + 1, 2000),
@@ -170,7 +193,7 @@ impl Desk<'_> {
 
     /// The nodes with one fault: none, one lost, one more, one left over, another production, or
     /// one that the table doesn't have.
-    fn spoilt(&self, chance: &mut Chance, mut nodes: Vec<Node>) -> Vec<Node> {
+    pub fn spoilt(&self, chance: &mut Chance, mut nodes: Vec<Node>) -> Vec<Node> {
         if nodes.is_empty() || chance.one_in(8) {
             return Vec::new();
         }
@@ -202,25 +225,49 @@ impl Desk<'_> {
         }
     }
 
-    fn replace(&mut self, point: usize, part: &[Node]) {
-        let [p, q] = (point as u16).to_be_bytes();
-        let [high, low] = (part.len() as u16).to_be_bytes();
-        self.text.frame(&[0x07, p, q, high, low]);
-        self.write_nodes(part);
-        if point >= self.held.len() {
-            return;
+    /// One point may be written as a row of one, which means the same.
+    pub fn replace(&mut self, chance: &mut Chance, row: &[Exchange]) {
+        match row {
+            [Exchange { point, part }] if !chance.one_in(4) => {
+                self.text.frame(&[&[0x07], &point_fields(*point, part)[..]].concat());
+            }
+            _ => self.write_points(row),
         }
-        let nodes = self.corrected(point, part);
-        let symbol = symbol_of(self.rules, self.held[point]);
-        if nodes.len() <= NODES && is_sound(self.rules, symbol, part) {
+        for exchange in row {
+            self.write_nodes(&exchange.part);
+        }
+        if self.fits(row) {
+            let nodes = self.corrected(row);
+            self.note(row, &nodes);
             self.hold(nodes);
         }
     }
 
-    /// The held tree with this part in the place of the subtree at the point.
-    fn corrected(&self, point: usize, part: &[Node]) -> Vec<Node> {
-        let end = end_of(self.rules, &self.held, point);
-        [&self.held[..point], part, &self.held[end..]].concat()
+    fn write_points(&mut self, row: &[Exchange]) {
+        self.text.frame(&[0x09, row.len() as u8]);
+        for Exchange { point, part } in row {
+            self.text.frame(&[&[0x0b], &point_fields(*point, part)[..]].concat());
+        }
+    }
+
+    /// Whether nothing but a waiver inside a circle can refuse the row.
+    fn fits(&self, row: &[Exchange]) -> bool {
+        (1..=POINTS).contains(&row.len())
+            && self.is_apart(row)
+            && self.corrected(row).len() <= NODES
+            && row.iter().all(|Exchange { point, part }| {
+                is_sound(self.rules, symbol_of(self.rules, self.held[*point]), part)
+            })
+    }
+
+    /// The held tree with all parts of a row, from the last to the first: so the points before
+    /// keep their numbers.
+    pub fn corrected(&self, row: &[Exchange]) -> Vec<Node> {
+        let mut nodes = self.held.clone();
+        for Exchange { point, part } in row.iter().rev() {
+            nodes.splice(*point..self.end(*point), part.iter().copied());
+        }
+        nodes
     }
 
     /// A sound tree is held unless it has a waiver inside a circle.
@@ -230,7 +277,7 @@ impl Desk<'_> {
         }
     }
 
-    fn allows(&self, nodes: &[Node]) -> bool {
+    pub fn allows(&self, nodes: &[Node]) -> bool {
         waivers::inside(self.rules, nodes).is_none()
     }
 
@@ -239,6 +286,13 @@ impl Desk<'_> {
             self.text.frame(&[&[0x05, node.production], &node.own.to_be_bytes()[..]].concat());
         }
     }
+}
+
+/// The fields of a point: its number and the count of its part.
+fn point_fields(point: usize, part: &[Node]) -> [u8; 4] {
+    let [p, q] = (point as u16).to_be_bytes();
+    let [high, low] = (part.len() as u16).to_be_bytes();
+    [p, q, high, low]
 }
 
 fn with_other_owns(chance: &mut Chance, mut nodes: Vec<Node>) -> Vec<Node> {
@@ -252,40 +306,46 @@ mod tests {
     use super::Desk;
     use crate::chance::Chance;
     use crate::growth::Node;
+    use crate::points::Met;
     use crate::rules::Rules;
     use crate::session::Size;
     use crate::text::Text;
 
-    /// The tree that we think is held after some commands, and the twin's answer to them and to a
-    /// dump behind them.
-    fn answer(rules: &Rules, commands: impl FnOnce(&mut Desk)) -> (Vec<Node>, Vec<String>) {
+    /// The tree that we think is held after some commands and what their rows met, and the twin's
+    /// answer to them and to a dump behind them.
+    fn answer(rules: &Rules, commands: impl FnOnce(&mut Desk)) -> (Vec<Node>, Met, Vec<String>) {
         let mut text = Text::default();
         rules.write(&mut text);
-        let mut desk = Desk { rules, size: Size::Small, held: Vec::new(), text: &mut text };
+        let met = Met::default();
+        let mut desk = Desk { rules, size: Size::Small, held: Vec::new(), text: &mut text, met };
         commands(&mut desk);
         desk.dump();
-        let held = desk.held;
+        let (held, met) = (desk.held, desk.met);
         let mut answer = Vec::new();
         thrummisk_reference::session::run(&text.bytes()[..], &mut answer).unwrap();
-        (held, String::from_utf8(answer).unwrap().lines().map(str::to_string).collect())
+        (held, met, String::from_utf8(answer).unwrap().lines().map(str::to_string).collect())
     }
 
     /// The sets at a session's end are those that a load of the tree gives which we think is held.
     /// Else we are wrong about what is refused, or the twin about what a refusal leaves.
     #[test]
     fn the_session_holds_what_we_think() {
-        let mut waived = 0;
+        let (mut waived, mut behind, mut way) = (0, 0, 0);
         for seed in 1..=500 {
             let mut chance = Chance::new(seed);
             let rules = Rules::draw(&mut chance, Size::Small);
-            let (held, lines) = answer(&rules, |desk| desk.draw(&mut chance));
+            let (held, met, lines) = answer(&rules, |desk| desk.draw(&mut chance));
+            behind += usize::from(met.behind);
+            way += usize::from(met.on_the_way);
             waived += usize::from(lines.iter().any(|line| line.starts_with("1f15")));
             if !held.is_empty() {
-                let (_, cold) = answer(&rules, |desk| desk.load(&held));
+                let (_, _, cold) = answer(&rules, |desk| desk.load(&held));
                 let sets: Vec<_> = cold.into_iter().filter(|line| line.starts_with("13")).collect();
                 assert!(lines.ends_with(&sets), "seed {seed}");
             }
         }
         assert!(waived >= 10, "only {waived} sessions with a waiver inside a circle");
+        assert!(behind >= 10, "only {behind} sessions with points right behind each other");
+        assert!(way >= 5, "only {way} sessions with a tree too large on the way");
     }
 }

@@ -5,7 +5,7 @@ use crate::text::{frame_of, line, Text};
 
 type Damage = fn(&mut Chance, &mut Text);
 
-const KINDS: [Damage; 36] = [
+const KINDS: [Damage; 44] = [
     // A field changed inside a good frame is how tables come to be refused: so, several times.
     another_field,
     another_field,
@@ -21,6 +21,14 @@ const KINDS: [Damage; 36] = [
     operation_at_limit,
     another_argument,
     another_argument,
+    points_line,
+    points_line,
+    points_line,
+    points_line,
+    points_line,
+    points_line,
+    points_line,
+    points_line,
     more_children,
     another_digit,
     another_digit,
@@ -69,10 +77,9 @@ fn any_place(chance: &mut Chance, text: &Text) -> (usize, usize) {
 /// A field of some frame gets another value, often one beside a limit. The frame's type is
 /// drawn before the frame, since most frames are equations and nodes.
 fn another_field(chance: &mut Chance, text: &mut Text) {
-    let kind = chance.pick(&[0x01, 0x02, 0x02, 0x03, 0x03, 0x04, 0x04, 0x04, 0x05, 0x06, 0x07]);
-    let of_kind: Vec<usize> = (0..text.lines.len())
-        .filter(|&at| frame_of(&text.lines[at]).first() == Some(&kind))
-        .collect();
+    let kinds = [1, 2, 2, 3, 3, 4, 4, 4, 5, 6, 7, 9, 9, 0x0b, 0x0b];
+    let kind = chance.pick(&kinds);
+    let of_kind = lines_of(text, |first| first == kind);
     if of_kind.is_empty() {
         return;
     }
@@ -90,6 +97,12 @@ fn another_field(chance: &mut Chance, text: &mut Text) {
         _ => chance.pick(&beside),
     };
     text.lines[at] = line(&frame);
+}
+
+/// The lines whose frames have such a type.
+fn lines_of(text: &Text, wanted: impl Fn(u8) -> bool) -> Vec<usize> {
+    let fits = |&at: &usize| frame_of(&text.lines[at]).first().is_some_and(|&kind| wanted(kind));
+    (0..text.lines.len()).filter(fits).collect()
 }
 
 /// A header whose counts lie on or beside their limits.
@@ -139,6 +152,31 @@ fn another_argument(chance: &mut Chance, text: &mut Text) {
         frame[position + 1] = chance.between(0, 8) as u8;
     }
     text.lines[at] = line(&frame);
+}
+
+/// One line less or more among the points of a command, or one of another length or type, or no
+/// line at all.
+fn points_line(chance: &mut Chance, text: &mut Text) {
+    let found = lines_of(text, |kind| matches!(kind, 0x09 | 0x0b));
+    if found.is_empty() {
+        return;
+    }
+    let at = chance.pick(&found);
+    let frame = frame_of(&text.lines[at]);
+    let (kind, fields) = (frame[0], &frame[1..]);
+    let other = chance.pick(&[0x05, 0x07, 0x07, 0x07, 0x08, 0x09, 0x0a, 0x0b, 0x0c]);
+    match chance.below(12) {
+        0 => drop(text.lines.remove(at)),
+        1 => text.lines.insert(at, text.lines[at].clone()),
+        2 => text.lines[at] = line(&frame[..frame.len() - 1]),
+        3 => text.lines[at] = line(&[&frame[..], &[other]].concat()),
+        4..=6 => text.lines[at] = line(&[&[other], fields].concat()),
+        7 => text.lines[at][0] = b'g',
+        8 => text.lines[at].make_ascii_uppercase(),
+        9 => drop(text.lines[at].remove(0)),
+        10 => text.lines.truncate(at + chance.below(2)),
+        _ => text.lines.insert(at + 1, line(&[&[kind ^ 2], fields].concat())),
+    }
 }
 
 /// The line and the frame of a whole equation that fits.
@@ -257,7 +295,7 @@ fn strange_line(chance: &mut Chance, text: &mut Text) {
     let strange = match chance.below(4) {
         0 => b"\n".to_vec(),
         1 => b" 08 \n".to_vec(),
-        2 => line(&[&[chance.between(0, 9) as u8], &bytes[..]].concat()),
+        2 => line(&[&[chance.between(0, 11) as u8], &bytes[..]].concat()),
         _ => line(&bytes),
     };
     text.lines.insert(at, strange);
@@ -315,6 +353,19 @@ fn cut_short(chance: &mut Chance, text: &mut Text) {
 }
 
 fn something_behind(chance: &mut Chance, text: &mut Text) {
-    let tails: [&[u8]; 7] = [b"\n", b"0", b"08", b"\r\n", b"\0", b"060001\n", b"0700000001"];
+    let tails: [&[u8]; 12] = [
+        b"\n",
+        b"0",
+        b"08",
+        b"\r\n",
+        b"\0",
+        b"060001\n",
+        b"0700000001",
+        b"0900\n08\n",
+        b"09\n",
+        b"0901\n",
+        b"0901\n0b00000001\n",
+        b"0b00000001\n",
+    ];
     text.lines.push(chance.pick(&tails).to_vec());
 }

@@ -1,4 +1,5 @@
-//! A settlement day of fixed shape: one load, then corrections of single lines.
+//! A settlement day of fixed shape: one load, then corrections of single lines, or of several lines
+//! by one command.
 //!
 //! A day holds groups of accounts, an account a row of lines. Reasons go up from lines to
 //! accounts and on to the day; what the day holds against everybody comes down. In a netted
@@ -7,7 +8,8 @@
 
 use crate::chance::Chance;
 use crate::growth::Node;
-use crate::rules::{Equation, Occurrence, Production, Rules, Symbol};
+use crate::points::POINTS;
+use crate::rules::{shuffle, Equation, Occurrence, Production, Rules, Symbol};
 use crate::text::Text;
 
 /// Always the same day: instruction counts of two days must be comparable.
@@ -32,8 +34,19 @@ mod production {
     pub const FREE_LINE: u8 = 8;
 }
 
-/// The day's text: a tree of this many nodes (even, from 16 to 512) and this many corrections.
-pub fn make(nodes: usize, corrections: usize) -> Vec<u8> {
+/// How a day's lines are corrected.
+pub enum Manner {
+    /// Each by a command of its own.
+    Single,
+    /// So many by one command.
+    Together(usize),
+    /// The same lines as together, each by a command of its own.
+    Apart(usize),
+}
+
+/// The day's text: a tree of this many nodes (even, from 16 to 512) and this many corrections, of
+/// one line each or of several.
+pub fn make(nodes: usize, corrections: usize, manner: Manner) -> Vec<u8> {
     let mut chance = Chance::new(SEED);
     let mut text = Text::default();
     rules().write(&mut text);
@@ -46,12 +59,52 @@ pub fn make(nodes: usize, corrections: usize) -> Vec<u8> {
     let is_line = |&at: &usize| tree[at].production >= production::LINE;
     let lines: Vec<usize> = (0..tree.len()).filter(is_line).collect();
     for _ in 0..corrections {
-        let [p, q] = (chance.pick(&lines) as u16).to_be_bytes();
-        text.frame(&[0x07, p, q, 0, 1]);
-        write_node(&mut text, line(&mut chance));
+        match manner {
+            Manner::Single => {
+                let point = chance.pick(&lines);
+                write_single(&mut text, point, line(&mut chance));
+            }
+            Manner::Together(points) => {
+                write_together(&mut text, &several(&mut chance, &lines, points));
+            }
+            Manner::Apart(points) => {
+                for (point, node) in several(&mut chance, &lines, points) {
+                    write_single(&mut text, point, node);
+                }
+            }
+        }
     }
     text.frame(&[0x08]);
     text.bytes()
+}
+
+/// So many different lines, rising, and what becomes of them. Eight are drawn however many are
+/// wanted: days of fewer points then correct some of the lines of days of more.
+fn several(chance: &mut Chance, lines: &[usize], points: usize) -> Vec<(usize, Node)> {
+    let mut lines = lines.to_vec();
+    shuffle(chance, &mut lines);
+    let mut drawn: Vec<(usize, Node)> =
+        lines.into_iter().take(POINTS).map(|point| (point, line(chance))).collect();
+    drawn.truncate(points);
+    drawn.sort_by_key(|&(point, _)| point);
+    drawn
+}
+
+fn write_single(text: &mut Text, point: usize, node: Node) {
+    let [p, q] = (point as u16).to_be_bytes();
+    text.frame(&[0x07, p, q, 0, 1]);
+    write_node(text, node);
+}
+
+fn write_together(text: &mut Text, row: &[(usize, Node)]) {
+    text.frame(&[0x09, row.len() as u8]);
+    for (point, _) in row {
+        let [p, q] = (*point as u16).to_be_bytes();
+        text.frame(&[0x0b, p, q, 0, 1]);
+    }
+    for &(_, node) in row {
+        write_node(text, node);
+    }
 }
 
 fn write_node(text: &mut Text, node: Node) {

@@ -6,6 +6,7 @@ pub mod commands;
 pub mod damage;
 pub mod day;
 pub mod growth;
+pub mod points;
 pub mod rules;
 pub mod session;
 pub mod survey;

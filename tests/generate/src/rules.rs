@@ -82,6 +82,9 @@ impl Rules {
     }
 
     pub fn draw(chance: &mut Chance, size: Size) -> Self {
+        if size != Size::Limit && chance.one_in(10) {
+            return Self::relay(chance);
+        }
         let rules = match size {
             Size::Limit => Self::full(chance),
             _ if chance.one_in(5) => Self::spine(chance),
@@ -114,6 +117,12 @@ impl Rules {
     /// The sets that a production defines, in the order of its equations.
     pub fn targets(&self, production: &Production) -> Vec<Occurrence> {
         targets(&declared(&self.symbols, production))
+    }
+
+    /// Whether an equation is a waiver.
+    pub fn waives(&self) -> bool {
+        let equations = self.productions.iter().flat_map(|production| &production.equations);
+        equations.into_iter().any(|equation| equation.op == 9)
     }
 
     pub fn write(&self, text: &mut Text) {
@@ -152,6 +161,25 @@ impl Rules {
             productions.push(bare(left, &[left]));
             productions.push(bare(left, &some_symbols(chance, 0, count, 4)));
         }
+        Self::new(symbols, productions)
+    }
+
+    /// The first node waives what it handed down itself, if that comes back: down one child and up,
+    /// then down the next. A leaf passes it on or not, so that it may take several leaves to close
+    /// the circle, and any one breaks it.
+    fn relay(chance: &mut Chance) -> Self {
+        let sets = |chance: &mut Chance| chance.between(1, 2) as u8;
+        let symbols = vec![
+            Symbol { synthesized: sets(chance), inherited: 0 },
+            Symbol { synthesized: sets(chance), inherited: sets(chance) },
+        ];
+        let mut productions = vec![bare(0, &vec![1; chance.between(2, 3)])];
+        productions.extend([0, 0, 0, 0, 1, 2, 2, 3].map(|children| bare(1, &vec![1; children])));
+        let relayed = |production| {
+            let production = with_equations(chance, Net::Downhill, &symbols, production);
+            with_relay(chance, &symbols, production)
+        };
+        let productions = productions.into_iter().map(relayed).collect();
         Self::new(symbols, productions)
     }
 
@@ -199,7 +227,7 @@ fn some_symbols(chance: &mut Chance, low: usize, end: usize, most: usize) -> Vec
     (0..chance.between(0, most)).map(|_| chance.between(low, end - 1) as u8).collect()
 }
 
-fn shuffle<T>(chance: &mut Chance, row: &mut [T]) {
+pub fn shuffle<T>(chance: &mut Chance, row: &mut [T]) {
     for end in (1..row.len()).rev() {
         row.swap(end, chance.below(end + 1));
     }
@@ -236,6 +264,38 @@ fn with_equations(
     let targets = targets(&declared).into_iter();
     let equations = targets.map(|target| equation(chance, net, target, &declared)).collect();
     Production { equations, ..production }
+}
+
+/// The production as one of a relay, by the first synthesized and the first inherited sets. A
+/// childless one passes on what it is handed, or only has an own set.
+fn with_relay(chance: &mut Chance, symbols: &[Symbol], mut production: Production) -> Production {
+    let children = production.children.len();
+    let broken = children == 0 && chance.one_in(2);
+    let targets = targets(&declared(symbols, &production));
+    for (equation, target) in production.equations.iter_mut().zip(targets) {
+        let Some(from) = relay_before(production.left, children as u8, target) else { continue };
+        *equation = match target {
+            (0, 0) if production.left == 0 => {
+                let child = chance.between(1, children) as u8;
+                Equation { op: 9, a: (child, 0), b: from, c: 0 }
+            }
+            (0, 0) if broken => Equation { op: 1, a: (0, 0), b: (0, 0), c: 0 },
+            _ => Equation { op: 8, a: from, b: (0, 0), c: 0 },
+        };
+    }
+    production
+}
+
+/// From which set a relay hands on to this one, if it is part of it.
+fn relay_before(left: u8, children: u8, target: Occurrence) -> Option<Occurrence> {
+    match target {
+        (0, 0) if children == 0 => Some((0, 4)),
+        (0, 0) => Some((children, 0)),
+        (1, 4) if left == 0 => Some((0, 0)),
+        (1, 4) => Some((0, 4)),
+        (child, 4) => Some((child - 1, 0)),
+        _ => None,
+    }
 }
 
 /// The sets of a production's left symbol and children.

@@ -4,6 +4,7 @@ use crate::chance::Chance;
 use crate::climb;
 use crate::commands;
 use crate::damage;
+use crate::points::Met;
 use crate::rules::Rules;
 use crate::text::Text;
 
@@ -62,6 +63,7 @@ impl Size {
 pub struct Session {
     pub size: Size,
     pub damaged: bool,
+    pub met: Met,
     pub text: Vec<u8>,
 }
 
@@ -71,15 +73,16 @@ pub fn make(seed: u64) -> Session {
     let size = Size::draw(&mut chance);
     if size == Size::Climb {
         let nodes = size.nodes(&mut chance);
-        return Session { size, damaged: false, text: climb::make(nodes) };
+        let (met, text) = (Met::default(), climb::make(nodes));
+        return Session { size, damaged: false, met, text };
     }
     let rules = Rules::draw(&mut chance, size);
     let mut text = Text::default();
     rules.write(&mut text);
-    commands::write(&mut chance, &rules, size, &mut text);
+    let met = commands::write(&mut chance, &rules, size, &mut text);
     let damaged = chance.one_in(3);
     if damaged {
         damage::damage(&mut chance, &mut text);
     }
-    Session { size, damaged, text: text.bytes() }
+    Session { size, damaged, met, text: text.bytes() }
 }

@@ -6,6 +6,7 @@ use std::fmt;
 use thrummisk_reference::frames::Frames;
 use thrummisk_reference::table::Table;
 
+use crate::points::Met;
 use crate::session::{Session, Size};
 use crate::text::frame_of;
 
@@ -33,6 +34,10 @@ impl Survey {
         self.count("sessions with a circle of 1,000 or more", (size >= 1000).into());
         self.count("sessions with a dump", (of_kind(0x13).count() > 0).into());
         self.count_limits(&text);
+        self.count_points(&text, &answers);
+        if !session.damaged {
+            self.count_met(session.met);
+        }
         if table_waives(session) {
             self.count_waivers(&text, updates > 0);
         }
@@ -57,6 +62,27 @@ impl Survey {
         let noted = |frame: &Vec<u8>| frame.len() == 10 && frame[0] == 0x05 && frame[2] != 0;
         let notes = !asked.is_empty() && text.iter().any(noted);
         self.count("sessions with op 7 and a node with notes", notes.into());
+    }
+
+    /// A session counts once for each number of points that a command of several points had which
+    /// was accepted.
+    fn count_points(&mut self, text: &[Vec<u8>], answers: &[Vec<u8>]) {
+        let accepted = accepted(text, answers);
+        for points in 1..=8 {
+            let has = accepted.contains(&points);
+            self.count(&format!("sessions with 09 accepted, {points} points"), has.into());
+        }
+        let several = accepted.iter().any(|&points| points > 1);
+        self.count("sessions with 09 accepted, 2 or more points", several.into());
+        self.count("commands 09 accepted", accepted.len() as u64);
+    }
+
+    /// What can't be told from text and answer alone.
+    fn count_met(&mut self, met: Met) {
+        self.count("sessions with 09, one right behind another", met.behind.into());
+        self.count("sessions with 09, past 512 on the way", met.on_the_way.into());
+        self.count("sessions with 09, 21 by all together alone", met.together.into());
+        self.count("sessions with 09, 21 by one alone made good", met.made_good.into());
     }
 
     /// For a session whose table has a waiver and is accepted.
@@ -104,10 +130,36 @@ fn refusal(frame: &[u8], text: &[Vec<u8>]) -> Vec<String> {
         (4, Some([0x04, 10, ..])) => Some("op 10"),
         (21, Some([0x06, ..])) => Some("a load"),
         (21, Some([0x07, ..])) => Some("a replacement"),
+        (6..=9 | 16 | 21, Some([0x09, ..])) => Some("a 09"),
+        (22, Some([0x09, 0])) => Some("no points"),
+        (13 | 14, Some([0x09 | 0x0b, ..])) => Some("a line of points"),
         _ => None,
     };
     let apart = what.map(|what| format!("{refusal:2} of {what}"));
     [Some(format!("{refusal:2}")), apart].into_iter().flatten().collect()
+}
+
+/// The numbers of points of those commands of several points that weren't refused. Before the line
+/// that ends a session every such frame is a command.
+fn accepted(text: &[Vec<u8>], answers: &[Vec<u8>]) -> Vec<usize> {
+    let refused: Vec<(u64, usize)> = answers
+        .iter()
+        .filter(|frame| frame.first() == Some(&0x1f))
+        .map(|frame| (number(frame.get(1..2)), number(frame.get(2..6)) as usize))
+        .collect();
+    let ends = |refusal: u64| matches!(refusal, 1..=5 | 13 | 14);
+    let end = refused.iter().find(|(refusal, _)| ends(*refusal)).map_or(usize::MAX, |last| last.1);
+    let mut accepted = Vec::new();
+    for (line, frame) in (1..).zip(text).take_while(|(line, _)| *line < end) {
+        let &[0x09, points] = &frame[..] else { continue };
+        let points = usize::from(points);
+        let rows = text.iter().skip(line).take(points);
+        let nodes: usize = rows.map(|row| number(row.get(3..5)) as usize).sum();
+        if line + points + nodes < end && refused.iter().all(|refusal| refusal.1 != line) {
+            accepted.push(points);
+        }
+    }
+    accepted
 }
 
 fn frames(text: &[u8]) -> Vec<Vec<u8>> {

@@ -12,10 +12,10 @@ use Rattle.channel.proofs.serve.Statement.{statement}
 use Rattle.channel.proofs.serve.Tie as tie
 
 starts-here : (s : State) → s ≡ firstState
-    → Starts (desk (replicate 2657 0) (replicate 29 0) (replicate 513 0) (replicate 513 0) (lent (replicate 512 0) (replicate 512 0) (replicate 4096 0) (replicate 4096 0)) s) (replicate 131072 0)
+    → Starts (desk (replicate 2657 0) (replicate 29 0) (replicate 513 0) (replicate 521 0) (lent (replicate 512 0) (replicate 512 0) (replicate 4096 0) (replicate 4096 0)) s) (replicate 131072 0)
 unfolding firstOut ownMemory
 starts-here s e =
-    subst (λ (x : State). Starts (desk (replicate 2657 0) (replicate 29 0) (replicate 513 0) (replicate 513 0) (lent (replicate 512 0) (replicate 512 0) (replicate 4096 0) (replicate 4096 0)) x) (replicate 131072 0))
+    subst (λ (x : State). Starts (desk (replicate 2657 0) (replicate 29 0) (replicate 513 0) (replicate 521 0) (lent (replicate 512 0) (replicate 512 0) (replicate 4096 0) (replicate 4096 0)) x) (replicate 131072 0))
     (sym e) program-starts
 
 take-pieces-requires : tie.Need-take-pieces-requires

@@ -11,8 +11,8 @@ use Rattle.desk.proofs.Deciding.{tests-no}
 use Rattle.desk.proofs.ending.is_stopped.Statement.{statement}
 use Rattle.desk.proofs.ending.is_stopped.Tie as tie
 
-other : (mode : Mode) → OneOf (0 ∷ 1 ∷ 2 ∷ 3 ∷ []) (tagOf M.the-type mode) → mode ≡ Stopped → ⊥
-other mode k e = miss (0 ∷ 1 ∷ 2 ∷ 3 ∷ []) 4 tt (rw e at k)
+other : (mode : Mode) → OneOf (0 ∷ 1 ∷ 2 ∷ 3 ∷ 4 ∷ []) (tagOf M.the-type mode) → mode ≡ Stopped → ⊥
+other mode k e = miss (0 ∷ 1 ∷ 2 ∷ 3 ∷ 4 ∷ []) 5 tt (rw e at k)
 
 pub is-stopped-spec : {M : Type 1} → statement M
 is-stopped-spec = tie.close (tie.spec (λ c. search needs) (λ c. search needs) (λ c. tests-no (other (c .before .args .mode) (c .match .keys2))))

@@ -7,18 +7,20 @@ use borrow.Author.Needs.{needs}
 use Rattle.frames.proofs.kinds.frame_of.Statement.{statement}
 use Rattle.frames.proofs.kinds.frame_of.Tie as tie
 
-returns-9 : tie.Need-returns-9
+returns-11 : tie.Need-returns-11
 unfolding frameOf kindOf
-returns-9 c =
+returns-11 c =
     let r = c .before .match .rest in
     let e = c .before .before .byte .ensures in
-    simp (← e, ne-eqb _ _ (r .1), ne-eqb _ _ (r .0 .1), ne-eqb _ _ (r .0 .0 .1), ne-eqb _ _ (r .0 .0 .0 .1), ne-eqb _ _ (r .0 .0 .0 .0 .1), ne-eqb _ _ (r .0 .0 .0 .0 .0 .1), ne-eqb _ _ (r .0 .0 .0 .0 .0 .0 .1), ne-eqb _ _ (r .0 .0 .0 .0 .0 .0 .0 .1)) (c .wrong .ensures)
+    simp (← e, ne-eqb _ _ (r .1), ne-eqb _ _ (r .0 .1), ne-eqb _ _ (r .0 .0 .1), ne-eqb _ _ (r .0 .0 .0 .1), ne-eqb _ _ (r .0 .0 .0 .0 .1), ne-eqb _ _ (r .0 .0 .0 .0 .0 .1), ne-eqb _ _ (r .0 .0 .0 .0 .0 .0 .1), ne-eqb _ _ (r .0 .0 .0 .0 .0 .0 .0 .1), ne-eqb _ _ (r .0 .0 .0 .0 .0 .0 .0 .0 .1), ne-eqb _ _ (r .0 .0 .0 .0 .0 .0 .0 .0 .0 .1)) (c .wrong .ensures)
 
 pub frame-of-spec : {M : Type 1} → statement M
 unfolding frameOf kindOf
 frame-of-spec =
     tie.close
     (tie.spec
+    (λ c κs. search needs)
+    (λ c κs. search needs)
     (λ c κs. search needs)
     (λ c κs. search needs)
     (λ c κs. search needs)
@@ -37,4 +39,6 @@ frame-of-spec =
     (λ c. let a = c .before .before .before .before .args in let e : numAt 2 (a .text .now) (a .place) ≡ 6 = sym (c .before .before .byte .ensures) ∙ c .before .match .keys6 in rw e (c .load-frame .ensures))
     (λ c. let a = c .before .before .before .before .args in let e : numAt 2 (a .text .now) (a .place) ≡ 7 = sym (c .before .before .byte .ensures) ∙ c .before .match .keys7 in rw e (c .replace-frame .ensures))
     (λ c. let a = c .before .before .before .before .args in let e : numAt 2 (a .text .now) (a .place) ≡ 8 = sym (c .before .before .byte .ensures) ∙ c .before .match .keys8 in rw e (c .dump-frame .ensures))
-    returns-9)
+    (λ c. let a = c .before .before .before .before .args in let e : numAt 2 (a .text .now) (a .place) ≡ 9 = sym (c .before .before .byte .ensures) ∙ c .before .match .keys9 in rw e (c .corrections-frame .ensures))
+    (λ c. let a = c .before .before .before .before .args in let e : numAt 2 (a .text .now) (a .place) ≡ 11 = sym (c .before .before .byte .ensures) ∙ c .before .match .keys10 in rw e (c .correction-frame .ensures))
+    returns-11)

@@ -5,7 +5,7 @@ use Prim.Native.Nat.{_+_, _≤_}
 use Rattle.judging.specs.Lent.{lent}
 use Rattle.texts.proofs.Sofar.{awaits-so}
 use Rattle.update.specs.Memories.{Memory}
-use Rattle.hearing.proofs.Cases.{by-table, by-command, by-nodes, by-working, by-stopped}
+use Rattle.hearing.proofs.Cases.{by-table, by-command, by-naming, by-nodes, by-working, by-stopped}
 use Rattle.hearing.proofs.Heard.{as-well, silent}
 use borrow.Author.Needs.{needs}
 use Rattle.hearing.proofs.hearing.hear.Statement.{statement}
@@ -32,10 +32,16 @@ hear-command-requires c κs =
     let h = rw (c .before .before .before .before .before .before .before .before .enum-told .given .1) at (s .pre .0 .1) in
     (h, s .pre .1)
 
+hear-point-requires : tie.Need-hear-point-requires
+hear-point-requires c κs =
+    let s = c .before .before .before .before .before .before .before .before .before .before .before .before .before .before .before .before .before .before in
+    let h = rw (c .before .before .before .before .before .before .before .before .before .mode2 .given .1) at (s .pre .0 .1) in
+    (h .0, (s .pre .1 .0, s .pre .1 .1, room s, h .1 .more))
+
 hear-node-requires : tie.Need-hear-node-requires
 hear-node-requires c κs =
     let s = c .before .before .before .before .before .before .before .before .before .before .before .before .before .before .before .before .before .before in
-    let h = rw (c .before .before .before .before .before .before .before .before .before .mode2 .given .1) at (s .pre .0 .1) in
+    let h = rw (c .before .before .before .before .before .before .before .before .before .mode3 .given .1) at (s .pre .0 .1) in
     (h .0, (s .pre .1 .0, s .pre .1 .1, room s, h .1))
 
 returns : tie.Need-returns
@@ -53,20 +59,27 @@ returns-2 c =
 
 returns-3 : tie.Need-returns-3
 returns-3 c =
-    let s = c .before .before .before .before .before .before .before .before .before .before .before .before .before .before .before .before .before .before .before .before .before .before .before .before .before .before .before .before .before .before .before .before .before in
+    let s = c .before .before .before .before .before .before .before .before .before .before .before .before .before .before .before .before .before .before .before .before .before .before .before .before .before .before .before .before .before .before .before in
     let a = s .args in
-    let g = c .before .before .before .before .before .before .before .before .before .before .before .before .before .before .before .before .before .before .before .before .before .before .before .before .mode2 .given in
-    as-well (by-nodes (a .table .now) (a .parts .now) (a .part-owns .now) (memory s) (a .«record») (a .frame) (a .line) (a .mode) (g .0 .0) (g .0 .1 .0) (g .0 .1 .1 .0) (g .0 .1 .1 .1 .0) (g .1)) (c .before .before .before .before .before .before .before .before .before .before .before .before .before .before .hear-node .ensures)
+    let g = c .before .before .before .before .before .before .before .before .before .before .before .before .before .before .before .before .before .before .before .before .before .before .mode2 .given in
+    as-well (by-naming (a .table .now) (a .parts .now) (a .part-owns .now) (memory s) (a .«record») (a .frame) (a .line) (a .mode) (g .0 .0) (g .0 .1 .0) (g .0 .1 .1 .0) (g .1)) (c .before .before .before .before .before .before .before .before .before .before .before .before .hear-point .ensures)
 
 returns-4 : tie.Need-returns-4
 returns-4 c =
-    let s = c .before .before .before .before .before .before .before .before .before .before in
+    let s = c .before .before .before .before .before .before .before .before .before .before .before .before .before .before .before .before .before .before .before .before .before .before .before .before .before .before .before .before .before .before .before .before .before in
     let a = s .args in
-    let g = c .before .mode3 .given in
-    as-well (by-working (a .table .now) (a .parts .now) (a .part-owns .now) (memory s) (a .«record») (a .frame) (a .line) (a .mode) (g .0 .0) (g .1)) (silent (a .table .now) (a .parts .now) (a .part-owns .now) (memory s) (a .«record») _ (a .printed) (a .out .now))
+    let g = c .before .before .before .before .before .before .before .before .before .before .before .before .before .before .before .before .before .before .before .before .before .before .before .before .mode3 .given in
+    as-well (by-nodes (a .table .now) (a .parts .now) (a .part-owns .now) (memory s) (a .«record») (a .frame) (a .line) (a .mode) (g .0 .0) (g .0 .1 .0) (g .0 .1 .1 .0) (g .0 .1 .1 .1 .0) (g .1)) (c .before .before .before .before .before .before .before .before .before .before .before .before .before .before .hear-node .ensures)
 
 returns-5 : tie.Need-returns-5
 returns-5 c =
+    let s = c .before .before .before .before .before .before .before .before .before .before in
+    let a = s .args in
+    let g = c .before .mode4 .given in
+    as-well (by-working (a .table .now) (a .parts .now) (a .part-owns .now) (memory s) (a .«record») (a .frame) (a .line) (a .mode) (g .0 .0) (g .1)) (silent (a .table .now) (a .parts .now) (a .part-owns .now) (memory s) (a .«record») _ (a .printed) (a .out .now))
+
+returns-6 : tie.Need-returns-6
+returns-6 c =
     let s = c .before .before .before .before .before .before .before .before .before in
     let a = s .args in
     as-well (by-stopped (a .table .now) (a .parts .now) (a .part-owns .now) (memory s) (a .«record») (a .frame) (a .line) (a .mode) (c .enum-told2 .given .1)) (silent (a .table .now) (a .parts .now) (a .part-owns .now) (memory s) (a .«record») _ (a .printed) (a .out .now))
@@ -79,6 +92,8 @@ hear-spec =
     hear-table-requires
     (λ c. search needs)
     hear-command-requires
+    (λ c. search needs)
+    hear-point-requires
     (λ c. search needs)
     hear-node-requires
     (λ c. search needs)
@@ -101,5 +116,13 @@ hear-spec =
     (λ c. search needs)
     (λ c. search needs)
     returns-3
+    (λ c. search needs)
+    (λ c. search needs)
+    (λ c. search needs)
+    (λ c. search needs)
+    (λ c. search needs)
+    (λ c. search needs)
+    (λ c. search needs)
     returns-4
-    returns-5)
+    returns-5
+    returns-6)

@@ -33,7 +33,7 @@ open-update-requires c κs =
     let p = s .pre .1 in
     let g = c .before .before .before .before .before .before .before .before .before .before .before .before .before .before .before .before .frame .given in
     let e = c .before .before .before .before .before .before .before .before .before .before .before .before .keep-node .ensures in
-    (s .pre .0, (kept-room (a .taken) (g .0 .0) (a .parts .now) _ (e .0) (p .0), kept-room (a .taken) (g .0 .1 .0) (a .part-owns .now) _ (e .1) (p .1), p .2))
+    (s .pre .0, (kept-room (a .taken) (g .0 .0) (a .parts .now) 513 _ (e .0) (p .0), kept-room (a .taken) (g .0 .1 .0) (a .part-owns .now) 521 _ (e .1) (p .1), p .2))
 
 returns-3 : tie.Need-returns-3
 returns-3 c =

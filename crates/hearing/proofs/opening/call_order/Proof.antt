@@ -9,10 +9,15 @@ returns c = rw (c .before .before .before .before .before .before .before .befor
 returns-2 : tie.Need-returns-2
 returns-2 c = rw (c .before .before .before .before .before .before .before .before .before .before .before .before .before .before .order .given .1) (c .before .before .before .before .before .before .before .before .replace-judged .ensures)
 
+returns-3 : tie.Need-returns-3
+returns-3 c = rw (c .before .before .before .before .before .before .before .before .before .before .before .before .before .before .order2 .given .1) (c .before .before .before .before .before .before .before .before .replace-points-judged .ensures)
+
 pub call-order-spec : {M : Type 1} → statement M
 call-order-spec =
     tie.close
     (tie.spec
+    (λ c. search needs)
+    (λ c κs. search needs)
     (λ c. search needs)
     (λ c κs. search needs)
     (λ c. search needs)
@@ -26,4 +31,9 @@ call-order-spec =
     (λ c. search needs)
     (λ c. search needs)
     (λ c. search needs)
-    returns-2)
+    returns-2
+    (λ c. search needs)
+    (λ c. search needs)
+    (λ c. search needs)
+    (λ c. search needs)
+    returns-3)

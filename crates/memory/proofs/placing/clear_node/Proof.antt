@@ -1,10 +1,9 @@
 -- A judged table has at most four sets each way at a symbol, so both stretches of empty slots lie inside the node. Assumes nothing.
-use mathlib.Core.Path.{_≡_, refl, ap, sym, _∙_, subst}
-use Prim.Native.Nat.{ℕ, _+_, _-_, _*_, _≤_, _<_, zero-le}
-use mathlib.Core.List.{List}
+use mathlib.Core.Path.{ap, sym, _∙_, subst}
+use Prim.Native.Nat.{_+_, _-_, _*_, _≤_, _<_, zero-le}
 use native.Mathlib.Omega.{arith}
 use borrow.Author.Needs.{needs}
-use lib.ListN.{length, getD, replicate}
+use lib.ListN.{replicate}
 use lib.Seq.{paste}
 use Rattle.table.specs.Words.{productionCount, symbolCount, synthesized, inherited, leftOf}
 use Rattle.memory.proofs.Slots.{node-cleared}

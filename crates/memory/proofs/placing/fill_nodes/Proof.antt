@@ -15,5 +15,5 @@ fill-nodes-spec =
     (λ c. search needs)
     (λ c.
     let s = c .before .before .before .before .before .before .before .before .before .before in
-    let w = c .before .before .before .before .before .before .write-nodes in
+    let w = c .before .before .before .before .before .before .copy-nodes in
     c .before .before .clear-nodes .ensures ∙ fill (s .args .held .now) (s .args .new .now) (s .pre) (w .last .0) (w .ensures)))

@@ -15,5 +15,5 @@ fill-sets-spec =
     (λ c. search needs)
     (λ c.
     let s = c .before .before .before .before .before .before .before .before .before .before in
-    let w = c .before .before .before .before .before .before .write-sets in
+    let w = c .before .before .before .before .before .before .copy-sets in
     c .before .before .clear-sets .ensures ∙ fill (s .args .sets .now) (s .args .new .now) (s .pre) (w .last .0) (w .ensures)))
