@@ -23,8 +23,8 @@ use Rattle.update.proofs.Several.{one-point}
 use Rattle.update.proofs.Ready.{tree-equal, tree-sound}
 use Rattle.demands.specs.Engine.{Engine}
 use Rattle.demands.specs.History.{replaces, History, finishes}
-use Rattle.demands.specs.Demands.{refusalIn, FinishedState, Demand1}
-use Rattle.demands.specs.InTurn.{SingleOpens, InTurn, begun, next, LastFirst}
+use Rattle.demands.specs.Demands.{refusalIn, FinishedState, Demand1, Demand2}
+use Rattle.demands.specs.InTurn.{SingleOpens, InTurn, begun, next, SameWay, LastFirst}
 use Rattle.demands.proofs.Histories.{words-end, words-more}
 use Rattle.demands.proofs.Ours.{one-end}
 
@@ -62,14 +62,14 @@ module _ (E : Engine) (t ns owns : List ℕ) (table : judgeTable t ≡ 0) (tree 
 -- ---- an accepted call has a row of parts
 
 module _ {E : Engine} {t ns owns : List ℕ} {r : Record} {m : Memory} (q : FinishedState E t ns owns r m) where
-  count : r .nodes ≡ length ns
+  pub count : r .nodes ≡ length ns
   unfolding shut
   count = ap (λ (k : Record). k .nodes) (q .closed)
 
-  held-nodes : nodesOf m (r .nodes) ≡ ns
+  pub held-nodes : nodesOf m (r .nodes) ≡ ns
   held-nodes = rw count (q .nodes)
 
-  accepted-row : Demand1 E → (ps : List Part) {r′ : Record} {m′ : Memory} → E .replace t m r ps ≡ leaving is-open r′ m′ → Row t ns 0 ps
+  pub accepted-row : Demand1 E → (ps : List Part) {r′ : Record} {m′ : Memory} → E .replace t m r ps ≡ leaving is-open r′ m′ → Row t ns 0 ps
   accepted-row d ps h =
       let c = d .replace t m r ps .tells .given .by0 .0 (ap (λ (l : Left (Said Opened)). refusalIn (l .answer)) h) in
       let b = c .1 .1 .1 .1 .1 .1 .1 in
@@ -93,17 +93,19 @@ same-tree {E} {t} {ns} {owns} {r} {r′} {m} {m′} p q i =
       same-slots (m .owns) (m′ .owns) owns (rw e (p .owned)) (rw e (q .owned)) i (λ l. p .behind i (rw e at l) .1 ∙ sym (q .behind i (rw e at l) .1)),
     )
 
+-- two histories of one tree
+pub same-way : (E : Engine) → Demand2 E → {t ns owns : List ℕ} {r r′ : Record} {m m′ : Memory} → History E t ns owns r m → History E t ns owns r′ m′
+    → SameWay E t ns owns r r′ m m′
+same-way E d {t} {ns} {owns} {r} {r′} {m} {m′} one other = record {
+  one = one;
+  other = other;
+  tree = same-tree (d .holds t ns owns r m one) (d .holds t ns owns r′ m′ other);
+  end = one-end E E d d t ns owns r r′ m m′ one other;
+}
+
 pub last-first : LastFirst
 last-first E d₁ d₂ t ns owns ps r r₁ r′ r″ m m₁ m′ m″ c e x h w call work turn =
     let q = d₂ .holds t ns owns r m h in
     let row = accepted-row q d₁ ps call in
-    let ns′ = nodesRow t ns ps in
-    let owns′ = ownsRow t ns owns ps in
-    let one = finishes (replaces h ps w call refl refl) work in
-    let other = in-turn E t ns owns (q .sound .table) (tree-sound t ns owns 0 (q .sound .tree)) (tree-equal t ns owns 0 (q .sound .tree)) 0 ps r m h row w turn in
-    record {
-      one = one;
-      other = other;
-      tree = same-tree (d₂ .holds t ns′ owns′ r′ m′ one) (d₂ .holds t ns′ owns′ r″ m″ other);
-      end = one-end E E d₂ d₂ t ns′ owns′ r′ r″ m′ m″ one other;
-    }
+    same-way E d₂ (finishes (replaces h ps w call refl refl) work)
+    (in-turn E t ns owns (q .sound .table) (tree-sound t ns owns 0 (q .sound .tree)) (tree-equal t ns owns 0 (q .sound .tree)) 0 ps r m h row w turn)

@@ -12,3 +12,4 @@ pub mod Moved
 pub mod Elements
 pub mod Replace
 pub mod Points
+pub mod EitherOrder

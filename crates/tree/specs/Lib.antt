@@ -11,6 +11,8 @@ pub mod Moved
 pub mod Replacement
 pub mod Points
 pub mod PointLaws
+pub mod EitherOrder
 pub mod Handed
 pub mod Example
 pub mod PointExample
+pub mod OrderExample

@@ -22,12 +22,18 @@ pub struct Desk<'a> {
 
 /// Writes commands; answers what their rows of points should have met.
 pub fn write(chance: &mut Chance, rules: &Rules, size: Size, text: &mut Text) -> Met {
-    let mut desk = Desk { rules, size, held: Vec::new(), text, met: Met::default() };
+    let mut desk = Desk::new(rules, size, text);
     desk.draw(chance);
     if !chance.one_in(3) {
         desk.dump();
     }
     desk.met
+}
+
+impl<'a> Desk<'a> {
+    pub fn new(rules: &'a Rules, size: Size, text: &'a mut Text) -> Self {
+        Desk { rules, size, held: Vec::new(), text, met: Met::default() }
+    }
 }
 
 impl Desk<'_> {
@@ -53,17 +59,23 @@ impl Desk<'_> {
     }
 
     fn good_load(&mut self, chance: &mut Chance) {
+        match self.tree(chance) {
+            Some(nodes) => self.load(&nodes),
+            None => self.poor_load(chance),
+        }
+    }
+
+    /// A sound tree of the desk's size, if the table can.
+    pub fn tree(&self, chance: &mut Chance) -> Option<Vec<Node>> {
         let mut target = self.size.nodes(chance);
-        let Some(mut nodes) = grow(chance, self.rules, 0, target) else {
-            return self.poor_load(chance);
-        };
+        let mut nodes = grow(chance, self.rules, 0, target)?;
         // A tree with a waiver inside a circle mostly gives way to smaller ones, so that there is
         // something to correct; now and then it is loaded, to be refused.
         while target > 1 && !self.allows(&nodes) && !chance.one_in(6) {
             target /= 2;
             nodes = grow(chance, self.rules, 0, target).unwrap_or(nodes);
         }
-        self.load(&nodes);
+        Some(nodes)
     }
 
     fn poor_load(&mut self, chance: &mut Chance) {
@@ -130,7 +142,7 @@ impl Desk<'_> {
         self.correct(chance);
     }
 
-    fn dump(&mut self) {
+    pub fn dump(&mut self) {
         self.text.frame(&[0x08]);
     }
 
@@ -216,7 +228,7 @@ impl Desk<'_> {
         chance.pick(&[known, known, known, count, count, count + 1, 0xff, any])
     }
 
-    fn load(&mut self, nodes: &[Node]) {
+    pub fn load(&mut self, nodes: &[Node]) {
         let [high, low] = (nodes.len() as u16).to_be_bytes();
         self.text.frame(&[0x06, high, low]);
         self.write_nodes(nodes);
@@ -228,13 +240,8 @@ impl Desk<'_> {
     /// One point may be written as a row of one, which means the same.
     pub fn replace(&mut self, chance: &mut Chance, row: &[Exchange]) {
         match row {
-            [Exchange { point, part }] if !chance.one_in(4) => {
-                self.text.frame(&[&[0x07], &point_fields(*point, part)[..]].concat());
-            }
-            _ => self.write_points(row),
-        }
-        for exchange in row {
-            self.write_nodes(&exchange.part);
+            [exchange] if !chance.one_in(4) => self.write_single(exchange),
+            _ => self.write_several(row),
         }
         if self.fits(row) {
             let nodes = self.corrected(row);
@@ -243,10 +250,19 @@ impl Desk<'_> {
         }
     }
 
-    fn write_points(&mut self, row: &[Exchange]) {
+    /// Writes a correction of one point, and holds what was held.
+    pub fn write_single(&mut self, exchange: &Exchange) {
+        self.text.frame(&[&[0x07], &point_fields(exchange)[..]].concat());
+        self.write_nodes(&exchange.part);
+    }
+
+    fn write_several(&mut self, row: &[Exchange]) {
         self.text.frame(&[0x09, row.len() as u8]);
-        for Exchange { point, part } in row {
-            self.text.frame(&[&[0x0b], &point_fields(*point, part)[..]].concat());
+        for exchange in row {
+            self.text.frame(&[&[0x0b], &point_fields(exchange)[..]].concat());
+        }
+        for exchange in row {
+            self.write_nodes(&exchange.part);
         }
     }
 
@@ -289,9 +305,9 @@ impl Desk<'_> {
 }
 
 /// The fields of a point: its number and the count of its part.
-fn point_fields(point: usize, part: &[Node]) -> [u8; 4] {
-    let [p, q] = (point as u16).to_be_bytes();
-    let [high, low] = (part.len() as u16).to_be_bytes();
+fn point_fields(exchange: &Exchange) -> [u8; 4] {
+    let [p, q] = (exchange.point as u16).to_be_bytes();
+    let [high, low] = (exchange.part.len() as u16).to_be_bytes();
     [p, q, high, low]
 }
 
@@ -316,8 +332,7 @@ mod tests {
     fn answer(rules: &Rules, commands: impl FnOnce(&mut Desk)) -> (Vec<Node>, Met, Vec<String>) {
         let mut text = Text::default();
         rules.write(&mut text);
-        let met = Met::default();
-        let mut desk = Desk { rules, size: Size::Small, held: Vec::new(), text: &mut text, met };
+        let mut desk = Desk::new(rules, Size::Small, &mut text);
         commands(&mut desk);
         desk.dump();
         let (held, met) = (desk.held, desk.met);

@@ -68,21 +68,28 @@ impl Desk<'_> {
         }
         // A trade makes a tree of 512 nodes, which takes long.
         let trade = if self.size == Size::Small { 10 } else { 2 };
-        let row = if chance.one_in(trade) { self.trade(chance) } else { self.row(chance) };
+        let trades = chance.one_in(trade);
+        let row = if trades { self.trade(chance, Self::points) } else { self.row(chance) };
         self.replace(chance, &row);
+    }
+
+    pub fn made_good_row(&mut self, chance: &mut Chance) {
+        match self.made_good(chance, Self::row) {
+            Some(row) => self.replace(chance, &row),
+            None => self.correct_several(chance),
+        }
     }
 
     /// A row with a point that alone would be refused for a waiver inside a circle, which the
     /// others break; if some tries find one.
-    pub fn made_good_row(&mut self, chance: &mut Chance) {
+    pub fn made_good(
+        &self,
+        chance: &mut Chance,
+        draw: fn(&Self, &mut Chance) -> Row,
+    ) -> Option<Row> {
         let tries = if self.rules.waives() && !self.held.is_empty() { 40 } else { 0 };
-        for _ in 0..tries {
-            let row = self.row(chance);
-            if self.allows(&self.corrected(&row)) && !self.allows_each(&row) {
-                return self.replace(chance, &row);
-            }
-        }
-        self.correct_several(chance);
+        let is_such = |row: &Row| self.allows(&self.corrected(row)) && !self.allows_each(row);
+        (0..tries).map(|_| draw(self, chance)).find(is_such)
     }
 
     /// Whether no point alone would put a waiver inside a circle.
@@ -100,10 +107,15 @@ impl Desk<'_> {
         self.replace(chance, &row);
     }
 
-    /// Points apart with parts that fit. The parts are drawn in any order, so that one may grow by
-    /// what another gives up, wherever that stands.
+    /// Points apart with parts that fit.
     pub fn row(&self, chance: &mut Chance) -> Row {
-        let mut row = self.points(chance);
+        let points = self.points(chance);
+        self.with_parts(chance, points)
+    }
+
+    /// The points with parts that fit. These are drawn in any order, so that one may grow by what
+    /// another gives up, wherever that stands.
+    pub fn with_parts(&self, chance: &mut Chance, mut row: Row) -> Row {
         let mut order: Vec<usize> = (0..row.len()).collect();
         shuffle(chance, &mut order);
         let mut nodes = self.held.len();
@@ -117,13 +129,13 @@ impl Desk<'_> {
 
     /// One part gives up all but what it must have, and another takes all the room that there is
     /// then, or rarely one node more. In between the tree may have too many nodes.
-    fn trade(&self, chance: &mut Chance) -> Row {
-        let mut row = self.points(chance);
+    pub fn trade(&self, chance: &mut Chance, points: fn(&Self, &mut Chance) -> Row) -> Row {
+        let mut row = points(self, chance);
         for _ in 0..10 {
             if row.len() > 1 && row.iter().any(|exchange| exchange.part.len() > 1) {
                 break;
             }
-            row = self.points(chance);
+            row = points(self, chance);
         }
         let size = |at: &usize| row[*at].part.len();
         let Some(giver) = (0..row.len()).max_by_key(size).filter(|_| row.len() > 1) else {
@@ -140,10 +152,14 @@ impl Desk<'_> {
         row
     }
 
-    /// Up to eight points, rising and apart, with their old parts. One in two is looked for right
-    /// behind an old part.
     fn points(&self, chance: &mut Chance) -> Row {
         let wanted = chance.pick(&[1, 2, 2, 2, 3, 3, 4, 5, 6, 7, 8, 8]);
+        self.some_points(chance, wanted)
+    }
+
+    /// Up to so many points, rising and apart, with their old parts. One in two is looked for right
+    /// behind an old part.
+    pub fn some_points(&self, chance: &mut Chance, wanted: usize) -> Row {
         let mut row = Row::new();
         for _ in 0..4 * wanted {
             let point = match &row[..] {

@@ -112,7 +112,7 @@ impl Survey {
         }
     }
 
-    fn count(&mut self, what: &str, count: u64) {
+    pub fn count(&mut self, what: &str, count: u64) {
         *self.counts.entry(what.to_string()).or_default() += count;
     }
 

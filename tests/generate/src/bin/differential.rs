@@ -4,117 +4,64 @@
 //! with a third argument, another program takes its place.
 
 use std::env;
-use std::fs;
-use std::io;
 use std::panic;
-use std::path::{Path, PathBuf};
+use std::path::PathBuf;
 use std::process::ExitCode;
-use std::sync::atomic::{AtomicU64, Ordering};
-use std::thread;
 
 use thrummisk_generate::chance::Chance;
-use thrummisk_generate::session::{self, Session};
+use thrummisk_generate::seeds::{Seeds, ENOUGH};
+use thrummisk_generate::session;
 use thrummisk_generate::survey::Survey;
 use thrummisk_generate::trial;
 
 const USAGE: &str = "usage: differential N PROGRAM [TWIN]";
 const KEPT: &str = "target/differential";
-const WORKERS: usize = 2;
-/// A program that differs everywhere needs no hundred thousand files to show it.
-const ENOUGH: u64 = 50;
 
-struct Trials {
-    count: u64,
+struct Programs {
     program: PathBuf,
     twin: Option<PathBuf>,
-    next: AtomicU64,
-    agreed: AtomicU64,
-    differed: AtomicU64,
 }
 
 fn main() -> ExitCode {
     let words: Vec<String> = env::args().skip(1).collect();
-    let Some(trials) = Trials::new(&words) else {
+    let Some((count, programs)) = read(&words) else {
         eprintln!("{USAGE}");
         return ExitCode::from(2);
     };
-    if let Err(error) = empty(Path::new(KEPT)) {
-        eprintln!("differential: {KEPT}: {error}");
-        return ExitCode::from(2);
-    }
-    let survey = trials.work_all();
-    let (agreed, differed) = (trials.agreed.into_inner(), trials.differed.into_inner());
+    let seeds = match Seeds::new(count, KEPT) {
+        Ok(seeds) => seeds,
+        Err(error) => {
+            eprintln!("differential: {KEPT}: {error}");
+            return ExitCode::from(2);
+        }
+    };
+    let survey = seeds.try_all(|seed, survey| {
+        let compared = programs.compare(&seeds, seed, survey);
+        compared.map_err(|difference| format!("differs: {difference}"))
+    });
+    let (agreed, differed) = (seeds.passed(), seeds.failed());
     print!("{survey}");
     if differed >= ENOUGH {
         println!("stopped after {differed} differences");
     }
-    println!("{agreed} of {} random sessions agree", trials.count);
-    ExitCode::from(u8::from(agreed < trials.count))
+    println!("{agreed} of {count} random sessions agree");
+    ExitCode::from(u8::from(agreed < count))
 }
 
-/// Differences of an earlier run would be taken for ours.
-fn empty(kept: &Path) -> io::Result<()> {
-    if kept.exists() {
-        fs::remove_dir_all(kept)?;
-    }
-    fs::create_dir_all(kept)
+fn read(words: &[String]) -> Option<(u64, Programs)> {
+    let (count, program, twin) = match words {
+        [count, program] => (count, program, None),
+        [count, program, twin] => (count, program, Some(twin.into())),
+        _ => return None,
+    };
+    let count = count.parse().ok().filter(|&count| count > 0)?;
+    Some((count, Programs { program: program.into(), twin }))
 }
 
-impl Trials {
-    fn new(words: &[String]) -> Option<Self> {
-        let (count, program, twin) = match words {
-            [count, program] => (count, program, None),
-            [count, program, twin] => (count, program, Some(twin.into())),
-            _ => return None,
-        };
-        Some(Trials {
-            count: count.parse().ok().filter(|&count| count > 0)?,
-            program: program.into(),
-            twin,
-            next: AtomicU64::new(1),
-            agreed: AtomicU64::new(0),
-            differed: AtomicU64::new(0),
-        })
-    }
-
-    fn work_all(&self) -> Survey {
-        thread::scope(|scope| {
-            let workers: Vec<_> = (0..WORKERS).map(|_| scope.spawn(|| self.work())).collect();
-            let mut all = Survey::default();
-            for worker in workers {
-                match worker.join() {
-                    Ok(survey) => all.join(survey),
-                    Err(fault) => panic::resume_unwind(fault),
-                }
-            }
-            all
-        })
-    }
-
-    fn work(&self) -> Survey {
-        let mut survey = Survey::default();
-        while self.differed.load(Ordering::Relaxed) < ENOUGH {
-            let seed = self.next.fetch_add(1, Ordering::Relaxed);
-            if seed > self.count {
-                break;
-            }
-            let session = session::make(seed);
-            match self.compare(seed, &session, &mut survey) {
-                Ok(()) => self.agreed.fetch_add(1, Ordering::Relaxed),
-                Err(difference) => {
-                    println!("seed {seed} differs: {difference}");
-                    self.differed.fetch_add(1, Ordering::Relaxed)
-                }
-            };
-        }
-        survey
-    }
-
-    fn compare(&self, seed: u64, session: &Session, survey: &mut Survey) -> Result<(), String> {
-        let keep = |ending: &str, bytes: &[u8]| {
-            let path = format!("{KEPT}/seed-{seed}.{ending}");
-            fs::write(&path, bytes).map_err(|error| format!("{path} can't be kept: {error}"))
-        };
+impl Programs {
+    fn compare(&self, seeds: &Seeds, seed: u64, survey: &mut Survey) -> Result<(), String> {
+        let session = session::make(seed);
+        let keep = |ending: &str, bytes: &[u8]| seeds.keep(seed, ending, bytes);
         let twin = match self.twin_answer(&session.text) {
             Ok(answer) => answer,
             Err(fault) => {
@@ -122,7 +69,7 @@ impl Trials {
                 return Err(format!("the twin {fault}"));
             }
         };
-        survey.add(session, &twin);
+        survey.add(&session, &twin);
         // One in 16 arrives in pieces: no answer may depend on that.
         let mut chance = Chance::new(!seed);
         let pieces = chance.one_in(16).then_some(chance);
