@@ -98,7 +98,7 @@ impl Engine {
         Ok(())
     }
 
-    /// Exchanges the subtrees at these points, all numbered in the tree as it was.
+    /// Exchanges the subtrees at these points, which go by the old tree's numbers.
     pub fn replace(&mut self, points: &[Point], part: &Part) -> Result<(), Refusal> {
         if !(1..=POINTS).contains(&points.len()) {
             return Err(Refusal::PointsOutsideLimit);

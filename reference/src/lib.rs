@@ -1,8 +1,8 @@
 //! The unproved twin of the Thrummisk session program.
 //!
-//! It is written from the same paper as the proved program and shares no line with it: where
-//! the two differ on a session, one of them has misread the paper. It is also what the proved
-//! program's instruction counts are measured against.
+//! It is a second program of the same rules, those of docs/RULES.md, and shares no line with the
+//! proved one: where the two differ on a session, one of them has a rule wrong. It is also what
+//! the proved program's instruction counts are measured against.
 
 pub mod circles;
 pub mod engine;

@@ -32,8 +32,8 @@ impl Readers {
     }
 }
 
-/// Again and again the circle with the smallest least place is taken of those whose outside
-/// arguments are all in taken circles.
+/// Circle by circle: next comes the one with the smallest least place among those that read
+/// nothing outside themselves but what has come already.
 #[derive(Default)]
 pub struct Ranks {
     order: Vec<Circle>,

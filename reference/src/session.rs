@@ -62,7 +62,7 @@ fn answer<R: Read, W: Write>(frames: &mut Frames<R>, printer: &mut Printer<W>) -
     }
 }
 
-/// All lines of a command are judged before anything else about it, so all its points and nodes
+/// A bad line comes before whatever else is wrong with a command, so all its points and nodes
 /// are read even where it is sure to be refused.
 fn read_points<R: Read>(
     frames: &mut Frames<R>,

@@ -14,9 +14,9 @@ use crate::tell::say;
 use crate::tell::tell_advanced;
 use crate::tell::tell_begun;
 use crate::tell::tell_stepped;
-use tree::Places;
-use tree::Point;
-use update::Record;
+use engine::Places;
+use engine::Point;
+use engine::Record;
 
 // What lies in lent memory at first.
 const DUST: u64 = 0xa5a5_a5a5_a5a5_a5a5;
@@ -71,12 +71,12 @@ fn replace_points(
     held: &mut [u8; 512],
     held_owns: &mut [u64; 512],
     sets: &mut [u64; 4096],
-    before: &mut [u64; 4096],
+    earlier: &mut [u64; 4096],
 ) -> Record {
     let points = places_of(row.count, row.first, row.second);
     let new = nodes_of(nodes, row.from, row.to);
     let own = owns_of(owns, row.own, ALL);
-    let d = engine::replace_points(table, r, points, new, own, held, held_owns, sets, before);
+    let d = engine::replace_points(table, r, points, new, own, held, held_owns, sets, earlier);
     tell_begun(b"replace_points: ", d)
 }
 
@@ -90,28 +90,28 @@ fn change(
     held: &mut [u8; 512],
     held_owns: &mut [u64; 512],
     sets: &mut [u64; 4096],
-    before: &mut [u64; 4096],
+    earlier: &mut [u64; 4096],
 ) -> Record {
     match change {
         Change::Load(from, to, upto) => {
             let tree = nodes_of(nodes, from, to);
             let own = owns_of(owns, from, upto);
-            let d = engine::load(table, r, tree, own, held, held_owns, sets, before);
+            let d = engine::load(table, r, tree, own, held, held_owns, sets, earlier);
             tell_begun(b"load: ", d)
         }
         Change::Short => {
             let mut few = [DUST; 4095];
-            let d = engine::load(table, r, nodes, owns, held, held_owns, &mut few, before);
+            let d = engine::load(table, r, nodes, owns, held, held_owns, &mut few, earlier);
             tell_begun(b"load: ", d)
         }
         Change::Replace(point, from, to, own) => {
             let part = nodes_of(nodes, from, to);
             let own = owns_of(owns, own, ALL);
-            let d = engine::replace(table, r, point, part, own, held, held_owns, sets, before);
+            let d = engine::replace(table, r, point, part, own, held, held_owns, sets, earlier);
             tell_begun(b"replace: ", d)
         }
         Change::ReplacePoints(row) => {
-            replace_points(table, r, row, nodes, owns, held, held_owns, sets, before)
+            replace_points(table, r, row, nodes, owns, held, held_owns, sets, earlier)
         }
     }
 }
@@ -124,16 +124,16 @@ fn work<'a>(
     held: &'a [u8; 512],
     held_owns: &'a [u64; 512],
     sets: &mut [u64; 4096],
-    before: &'a [u64; 4096],
+    earlier: &'a [u64; 4096],
 ) -> Record {
     match work {
-        Work::Step => tell_stepped(engine::step(table, r, held, held_owns, sets, before)),
+        Work::Step => tell_stepped(engine::step(table, r, held, held_owns, sets, earlier)),
         Work::Run(budget) => {
-            let d = run_lent(table, r, held, held_owns, sets, before, budget);
+            let d = run_lent(table, r, held, held_owns, sets, earlier, budget);
             tell_advanced(b"run ", budget, d)
         }
         Work::RunRecord(budget) => {
-            let d = engine::run_record(table, r, held, held_owns, sets, before, budget);
+            let d = engine::run_record(table, r, held, held_owns, sets, earlier, budget);
             tell_advanced(b"run_record ", budget, d)
         }
     }
@@ -154,12 +154,12 @@ fn look(
     held: &[u8; 512],
     held_owns: &[u64; 512],
     sets: &[u64; 4096],
-    before: &[u64; 4096],
+    earlier: &[u64; 4096],
 ) -> Record {
     match look {
-        Look::Read(instance) => read(table, r, held, held_owns, sets, before, instance),
-        Look::Day => read_day(table, r, held, held_owns, sets, before),
-        Look::Memory => tell_memory(held, held_owns, sets, before),
+        Look::Read(instance) => read(table, r, held, held_owns, sets, earlier, instance),
+        Look::Day => read_day(table, r, held, held_owns, sets, earlier),
+        Look::Memory => tell_memory(held, held_owns, sets, earlier),
         Look::Empty => return Record::empty(),
         Look::Beyond => return beyond(),
         Look::Line => say(b"\n"),
@@ -179,7 +179,7 @@ pub fn perform(
     let mut held = [0xa5u8; 512];
     let mut held_owns = [DUST; 512];
     let mut sets = [DUST; 4096];
-    let mut before = [DUST; 4096];
+    let mut earlier = [DUST; 4096];
     let mut r = Record::empty();
     for i in 0..tape.len() {
         let call = call_of(tape[i], count, point);
@@ -194,14 +194,14 @@ pub fn perform(
                     &mut held,
                     &mut held_owns,
                     &mut sets,
-                    &mut before,
+                    &mut earlier,
                 );
             }
             Call::Work(w) => {
-                r = work(&table, r, w, &held, &held_owns, &mut sets, &before);
+                r = work(&table, r, w, &held, &held_owns, &mut sets, &earlier);
             }
             Call::Look(l) => {
-                r = look(&table, r, l, &held, &held_owns, &sets, &before);
+                r = look(&table, r, l, &held, &held_owns, &sets, &earlier);
             }
         }
     }

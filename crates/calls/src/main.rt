@@ -1,6 +1,6 @@
 // Makes every public call of the engine on four days, because what is only proved has never been run: session A's, one of a tree of 512 nodes, and two with a waiver, which
 // stands outside every circle until the leaf is replaced, and inside one from the start. Each line says what a call answers and, behind a bar, the record that it leaves; a
-// line of memory is a mark of all that is lent, which no refused call may change. `stdout` has the right lines, from the paper, the recorded sessions and a program that
+// line of memory is a mark of all that is lent, which no refused call may change. `stdout` has the right lines, from docs/RULES.md, the recorded sessions and a program that
 // isn't this one.
 mod act;
 mod lending;
@@ -10,12 +10,12 @@ mod tape;
 mod tell;
 
 use act::perform;
-use planting::ReadTree;
-use planting::read_tree;
 use tape::ALL;
 use tell::say;
-use texts::ReadTable;
-use texts::read_table;
+use text::ReadTable;
+use text::ReadTree;
+use text::read_table;
+use text::read_tree;
 
 // The calls of a day, as `tape` spells them: with a table of zeros; without a tree; loads that are refused; with a record beyond its limits; the load; what is refused while
 // it is open; its rounds; what is refused then; readings; replacements that are refused; one that isn't; its rounds, and readings.

@@ -32,9 +32,9 @@ pub fn tell_memory(
     held: &[u8; 512],
     held_owns: &[u64; 512],
     sets: &[u64; 4096],
-    before: &[u64; 4096],
+    earlier: &[u64; 4096],
 ) {
     let nodes = mix_words(mix_bytes(FIRST, held), held_owns);
-    say_set(b"memory ", mix_words(mix_words(nodes, sets), before));
+    say_set(b"memory ", mix_words(mix_words(nodes, sets), earlier));
     say(b"\n");
 }

@@ -4,8 +4,8 @@ use crate::mark::mix;
 use crate::tell::say;
 use crate::tell::say_set;
 use crate::tell::tell_reading;
-use update::Reading;
-use update::Record;
+use engine::Reading;
+use engine::Record;
 
 pub fn read(
     table: &[u64; 2657],
@@ -13,10 +13,10 @@ pub fn read(
     held: &[u8; 512],
     held_owns: &[u64; 512],
     sets: &[u64; 4096],
-    before: &[u64; 4096],
+    earlier: &[u64; 4096],
     instance: usize,
 ) {
-    let reading = engine::read(table, record, held, held_owns, sets, before, instance);
+    let reading = engine::read(table, record, held, held_owns, sets, earlier, instance);
     tell_reading(instance, reading);
 }
 
@@ -35,11 +35,11 @@ fn read_all(
     held: &[u8; 512],
     held_owns: &[u64; 512],
     sets: &[u64; 4096],
-    before: &[u64; 4096],
+    earlier: &[u64; 4096],
 ) -> u64 {
     let mut mark = FIRST;
     for i in 0..4096 {
-        let reading = engine::read(table, record, held, held_owns, sets, before, i);
+        let reading = engine::read(table, record, held, held_owns, sets, earlier, i);
         mark = mix(mark, set_of(reading));
     }
     mark
@@ -52,17 +52,17 @@ pub fn read_day(
     held: &[u8; 512],
     held_owns: &[u64; 512],
     sets: &[u64; 4096],
-    before: &[u64; 4096],
+    earlier: &[u64; 4096],
 ) {
-    read(table, record, held, held_owns, sets, before, 0);
-    read(table, record, held, held_owns, sets, before, 8);
-    read(table, record, held, held_owns, sets, before, 12);
-    read(table, record, held, held_owns, sets, before, 16);
-    read(table, record, held, held_owns, sets, before, 20);
-    read(table, record, held, held_owns, sets, before, 4095);
-    read(table, record, held, held_owns, sets, before, 4);
-    read(table, record, held, held_owns, sets, before, 4096);
-    let all = read_all(table, record, held, held_owns, sets, before);
+    read(table, record, held, held_owns, sets, earlier, 0);
+    read(table, record, held, held_owns, sets, earlier, 8);
+    read(table, record, held, held_owns, sets, earlier, 12);
+    read(table, record, held, held_owns, sets, earlier, 16);
+    read(table, record, held, held_owns, sets, earlier, 20);
+    read(table, record, held, held_owns, sets, earlier, 4095);
+    read(table, record, held, held_owns, sets, earlier, 4);
+    read(table, record, held, held_owns, sets, earlier, 4096);
+    let all = read_all(table, record, held, held_owns, sets, earlier);
     say_set(b"read all: ", all);
     say(b"\n");
 }

@@ -1,17 +1,17 @@
 // What a call answers, and the record that it leaves, as a line.
+use engine::Answer;
 use engine::Begun;
+use engine::Open;
+use engine::Point;
+use engine::Ran;
+use engine::Reading;
+use engine::Record;
+use engine::Run;
+use engine::Stepped;
 use libc::STDOUT_FILENO;
 use refusal::Refusal;
 use refusal::Verdict;
 use refusal::number;
-use steps::Advanced;
-use steps::Stepped;
-use tree::Point;
-use update::Answer;
-use update::Open;
-use update::Reading;
-use update::Record;
-use update::Run;
 
 pub fn wide(x: u8) -> u64 {
     x as u64
@@ -157,7 +157,7 @@ pub fn tell_stepped(stepped: Stepped) -> Record {
 }
 
 // A run, by its name and its budget.
-pub fn tell_advanced(name: &[u8], budget: u64, advanced: Advanced) -> Record {
+pub fn tell_advanced(name: &[u8], budget: u64, advanced: Ran) -> Record {
     let answer = advanced.answer;
     let next = advanced.record;
     say_count(name, budget);

@@ -9,7 +9,7 @@ fn tell(path: &[u8]) -> bool {
     }
     let is_named = io::write_all(1, path) && io::write_all(1, b"\n");
     if is_named {
-        channel::serve(fd, 1);
+        session_serve::serve(fd, 1);
     }
     libc::close(fd);
     is_named

@@ -1,16 +1,15 @@
 -- A circle is lone by its members; and graphs that agree on the slots have the same circles. Assumes nothing.
 use Prim.Native.Nat.{ℕ, zero, suc, _<_}
 use mathlib.Core.Path.{_≡_, refl, sym, ap, subst, _∙_}
-use mathlib.Core.Bool.{Bool, true, false, cond, not, _&&_, _||_, true≢false, false≢true}
-use mathlib.Core.List.{List, [], _∷_, map, List·Memᴰ·head, List·Memᴰ·tail}
-use mathlib.Core.Logic.{_⊎_, inl, inr}
+use mathlib.Core.Bool.{Bool, false, cond, not, _&&_, _||_, true≢false, false≢true}
+use mathlib.Core.List.{List, [], _∷_, map}
 use lib.ListN.{getD, length}
 use lib.Dec.{eqb, ltb}
 use native.Mathlib.Omega.{arith}
 use Rattle.circles.specs.Graph.{Graph, _∈_}
-use Rattle.circles.specs.Ranked.{member, anyOf, allOf, keep, upFrom, slots, firstOf, has, wider, widened, reaching, reachings, labelIn, labelsBy, labelsOf, labelAt, circleOf, settled, ready, takeable, ranking, rankedBy, ranked, loneOf}
+use Rattle.circles.specs.Ranked.{member, anyOf, allOf, keep, upFrom, firstOf, has, wider, widened, reaching, reachings, labelIn, labelsBy, labelsOf, labelAt, circleOf, settled, ready, takeable, ranking, rankedBy, ranked, loneOf}
 use Rattle.circles.specs.Laws.{Lonely, Alike}
-use Rattle.circles.proofs.Lists.{member-of, of-member, not-of, not-was, not-true-false, map-same, in-keep, in-slots}
+use Rattle.circles.proofs.Lists.{member-of, of-member, not-of, not-was, not-true-false, map-same, in-keep, in-slots, all-cong}
 
 pub lonely : (G : Graph) (C : List ℕ) → Lonely G C
 unfolding loneOf
@@ -65,14 +64,10 @@ module _ (n : ℕ) (d e : ℕ → Bool) (f g : ℕ → List ℕ) (ds : (x : ℕ)
   unfolding circleOf
   circle-same labels l = refl
 
-  all-same : (p q : ℕ → Bool) (ks : List ℕ) → ((x : ℕ) → x ∈ ks → p x ≡ q x) → allOf p ks ≡ allOf q ks
-  all-same p q [] h = refl
-  all-same p q (x ∷ ks) h = ap (λ (t : Bool). t && allOf p ks) (h x (List·Memᴰ·head refl)) ∙ ap (λ (t : Bool). q x && t) (all-same p q ks (λ y m. h y (List·Memᴰ·tail m)))
-
   ready-same : (labels tk : List ℕ) (l : ℕ) → ready A labels tk l ≡ ready B labels tk l
   unfolding ready circleOf
   ready-same labels tk l =
-      all-same (λ x. allOf (settled labels tk l) (f x)) (λ x. allOf (settled labels tk l) (g x)) (keep (λ x. eqb (labelAt labels x) l) (upFrom 0 n))
+      all-cong (λ x. allOf (settled labels tk l) (f x)) (λ x. allOf (settled labels tk l) (g x)) (keep (λ x. eqb (labelAt labels x) l) (upFrom 0 n))
       (λ x h. ap (allOf (settled labels tk l)) (fs x (in-slots n (in-keep (λ x. eqb (labelAt labels x) l) (upFrom 0 n) h .0))))
 
   takeable-same : (labels tk : List ℕ) (l : ℕ) → takeable A labels tk l ≡ takeable B labels tk l

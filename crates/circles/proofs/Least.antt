@@ -1,17 +1,17 @@
 -- Labels are the least of their circles. Assumes nothing.
-use Prim.Native.Nat.{ℕ, zero, suc, _+_, _≤_, _<_}
+use Prim.Native.Nat.{ℕ, _≤_, _<_}
 use native.Mathlib.Omega.{arith}
 use native.Mathlib.Decide.{decLt}
-use mathlib.Core.Path.{_≡_, refl, sym, ap, subst, _∙_}
-use mathlib.Core.Bool.{Bool, true, false, cond, _&&_, true≢false, false≢true}
-use mathlib.Core.List.{List, [], map}
-use mathlib.Core.Logic.{_⊎_, inl, inr, ⊎-elim, dite}
+use mathlib.Core.Path.{_≡_, sym, ap, subst, _∙_}
+use mathlib.Core.Bool.{Bool, true, false, cond, _&&_, true≢false}
+use mathlib.Core.List.{List, []}
+use mathlib.Core.Logic.{_⊎_, ⊎-elim, dite}
 use lib.ListN.{length, getD, List·getD-eq-default}
-use Rattle.circles.specs.Graph.{Graph, Reads, Reaches, Together, LeastOf, Closed, Path⁺, here, there}
-use Rattle.circles.specs.Ranked.{has, firstOf, upFrom, slots, reaching, reachings, labelIn, labelsBy, labelsOf, labelAt}
+use Rattle.circles.specs.Graph.{Graph, Reaches, Together, LeastOf, Closed, here}
+use Rattle.circles.specs.Ranked.{has, firstOf, slots, reaching, reachings, labelIn, labelsBy, labelsOf, labelAt}
 use Rattle.circles.proofs.Paths.{join, closed}
-use Rattle.circles.proofs.Lists.{and-parts, and-of, map-at, map-long, first-cases, Hit, Miss}
-use Rattle.circles.proofs.Reach.{reaching-sound, reaching-complete, end-below, start-below}
+use Rattle.circles.proofs.Lists.{and-parts, and-of, map-at, map-long, first-cases}
+use Rattle.circles.proofs.Reach.{reaching-sound, reaching-complete, end-below}
 
 pub together-sym : {G : Graph} {x y : ℕ} → Together G x y → Together G y x
 together-sym t = (t .1, t .0)

@@ -1,21 +1,21 @@
 -- Every circle is listed, once, and after what it reads. Assumes nothing.
 use Prim.Native.Nat.{ℕ, zero, suc, _+_, _-_, _≤_, _<_}
 use native.Mathlib.Omega.{arith}
-use native.Mathlib.Decide.{ℕ-discrete, decLt}
+use native.Mathlib.Decide.{decLt}
 use mathlib.Core.Path.{_≡_, refl, sym, ap, subst, _∙_}
-use mathlib.Core.Bool.{Bool, true, false, cond, not, _&&_, _||_, true≢false, false≢true}
-use mathlib.Core.List.{List, [], _∷_, _++_, map, List·Memᴰ·head, List·Memᴰ·tail, List·Memᴰ·not-nil, List·Memᴰ·cases-cons}
+use mathlib.Core.Bool.{Bool, true, false, not, _&&_, _||_, true≢false}
+use mathlib.Core.List.{List, [], _∷_, List·Memᴰ·head, List·Memᴰ·tail}
 use mathlib.Core.Logic.{_⊎_, inl, inr, ⊎-elim, dite}
-use lib.ListN.{length, getD, length-map}
-use lib.Dec.{eqb, ltb}
-use borrow.Author.Tests.{eq-eqb, ne-eqb, eqb-true, eqb-false}
-use Rattle.circles.specs.Graph.{Graph, Reads, Reaches, Together, LeastOf, Closed, here, _∈_}
-use Rattle.circles.specs.Ranked.{member, allOf, keep, upFrom, slots, has, reaching, firstOf, labelAt, labelsOf, circleOf, settled, ready, takeable, ranking, ranked}
+use lib.ListN.{length}
+use lib.Dec.{eqb}
+use borrow.Author.Tests.{eq-eqb, eqb-true}
+use Rattle.circles.specs.Graph.{Graph, Reaches, Together, Closed, here, _∈_}
+use Rattle.circles.specs.Ranked.{member, allOf, keep, slots, has, reaching, firstOf, labelAt, labelsOf, circleOf, settled, ready, takeable, ranking}
 use Rattle.circles.proofs.Paths.{one, join}
-use Rattle.circles.proofs.Lists.{not-true-false, and-parts, and-of, or-parts, or-one, or-two, not-of, not-was, member-of, of-member, all-of, of-all, in-keep, of-keep, keep-here, keep-step, keep-none, in-slots, of-slots, first-cases, Hit, Miss, keep-same, bool-same, length-up}
+use Rattle.circles.proofs.Lists.{not-true-false, and-parts, and-of, or-parts, or-one, or-two, not-of, not-was, of-member, all-of, of-all, in-keep, of-keep, keep-here, keep-none, in-slots, of-slots, first-cases, keep-same, bool-same, length-up}
 use Rattle.circles.proofs.Reach.{reaching-sound, reaching-complete, end-below}
-use Rattle.circles.proofs.Least.{together-sym, together-join, least-one, least-move, least-label, label-is, label-off, label-past, reached-declared}
-use Rattle.circles.proofs.Ranking.{ranking-takes, ranking-ends, ranking-zero, count-two, keep-le, heldBy, held-le, held-more, held-none}
+use Rattle.circles.proofs.Least.{together-sym, together-join, least-move, least-label, label-is, label-off, label-past, reached-declared}
+use Rattle.circles.proofs.Ranking.{ranking-takes, count-two, heldBy, held-more}
 
 -- ---- lists
 

@@ -1,15 +1,14 @@
 -- Lists of slots: what is kept, found first, counted. Assumes nothing.
-use Prim.Native.Nat.{ℕ, zero, suc, _+_, _-_, _≤_, _<_, zero-le, suc-le-suc}
+use Prim.Native.Nat.{ℕ, zero, suc, _+_, _-_, _≤_, _<_}
 use native.Mathlib.Omega.{arith}
-use native.Mathlib.Nat.{not-suc-le-zero}
-use native.Mathlib.Decide.{ℕ-discrete, decLt}
+use native.Mathlib.Decide.{ℕ-discrete}
 use mathlib.Core.Path.{_≡_, refl, sym, ap, subst, _∙_}
-use mathlib.Core.Bool.{Bool, true, false, cond, not, _&&_, _||_, true≢false, false≢true}
-use mathlib.Core.List.{List, [], _∷_, _++_, map, List·Memᴰ·head, List·Memᴰ·tail, List·Memᴰ·not-nil, List·Memᴰ·cases-cons}
+use mathlib.Core.Bool.{Bool, true, false, cond, not, _&&_, _||_, false≢true}
+use mathlib.Core.List.{List, [], _∷_, map, List·Memᴰ·head, List·Memᴰ·tail, List·Memᴰ·not-nil, List·Memᴰ·cases-cons}
 use mathlib.Core.Logic.{_⊎_, inl, inr, ⊎-elim, dite}
 use lib.ListN.{length, getD, length-map}
-use lib.Dec.{eqb, ltb}
-use borrow.Author.Tests.{eq-eqb, ne-eqb, eqb-true, eqb-false, lt-ltb, le-ltb, ltb-true, ltb-false}
+use lib.Dec.{eqb}
+use borrow.Author.Tests.{eq-eqb, eqb-true}
 use Rattle.circles.specs.Graph.{_∈_}
 use Rattle.circles.specs.Ranked.{member, anyOf, allOf, keep, firstOf, upFrom}
 
@@ -76,6 +75,25 @@ all-of p e (List·Memᴰ·tail {x} {xs} h) = all-of p (and-parts (p x) (allOf p 
 pub of-all : (p : ℕ → Bool) (l : List ℕ) → ((y : ℕ) → y ∈ l → p y ≡ true) → allOf p l ≡ true
 of-all p [] f = refl
 of-all p (x ∷ l) f = and-of (p x) (allOf p l) (f x (List·Memᴰ·head refl)) (of-all p l (λ y h. f y (List·Memᴰ·tail h)))
+
+pub all-cong : (f g : ℕ → Bool) (l : List ℕ) → ((x : ℕ) → x ∈ l → f x ≡ g x) → allOf f l ≡ allOf g l
+all-cong f g [] h = refl
+all-cong f g (y ∷ l) h = rw (h y (List·Memᴰ·head refl), all-cong f g l (λ x m. h x (List·Memᴰ·tail m)))
+
+-- a list with a member is not empty, and has its first
+pub some-long : (l : List ℕ) (y : ℕ) → member l y ≡ true → 0 < length l
+some-long [] y m = absurd (false≢true m)
+some-long (x ∷ l) y m = omega arith
+
+pub first-member : (l : List ℕ) → 0 < length l → member l (getD l 0 0) ≡ true
+first-member [] h = absurd (omega arith)
+first-member (x ∷ l) h = rw (eq-eqb x x refl)
+
+-- within a list the default doesn't matter
+pub default-is : (l : List ℕ) (x d e : ℕ) → x < length l → getD l x d ≡ getD l x e
+default-is [] x d e h = absurd (omega arith)
+default-is (y ∷ l) zero d e h = refl
+default-is (y ∷ l) (suc x) d e h = default-is l x d e (omega arith)
 
 -- ---- what is kept
 

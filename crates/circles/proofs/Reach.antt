@@ -1,17 +1,16 @@
 -- The search that computes says what `Reaches` says. Assumes nothing.
 use Prim.Native.Nat.{ℕ, zero, suc, _+_, _<_, _≤_, zero-le, suc-le-suc}
-use native.Mathlib.Nat.{le-refl, le-trans, le-of-suc-le-suc, not-suc-le-zero, suc-inj, le-suc}
-use native.Mathlib.Decide.{decLt}
+use native.Mathlib.Nat.{le-trans, suc-inj, le-suc}
 use native.Mathlib.Omega.{arith}
 use mathlib.Core.Path.{_≡_, refl, sym, ap, subst, _∙_}
-use mathlib.Core.Bool.{Bool, true, false, _||_, false≢true, true≢false}
+use mathlib.Core.Bool.{Bool, true, false, _||_, false≢true}
 use mathlib.Core.List.{List, [], _∷_, map}
-use mathlib.Core.Logic.{_⊎_, inl, inr, ⊎-elim, dite}
-use lib.ListN.{getD, length, List·getD-eq-default}
+use mathlib.Core.Logic.{_⊎_, inl, inr, ⊎-elim}
+use lib.ListN.{length}
 use lib.Dec.{eqb}
 use borrow.Author.Tests.{eqb-true, eq-eqb}
-use Rattle.circles.specs.Graph.{Graph, Reads, Reaches, Path⁺, here, there, _∈_}
-use Rattle.circles.specs.Ranked.{anyOf, upFrom, slots, has, wider, widened, reaching}
+use Rattle.circles.specs.Graph.{Graph, Reads, Reaches, here, there}
+use Rattle.circles.specs.Ranked.{anyOf, slots, has, wider, widened, reaching}
 use Rattle.circles.proofs.Paths.{one, join, closed-back}
 use Rattle.circles.proofs.Lists.{or-parts, or-one, or-two, any-of, of-any, map-at, map-long}
 
@@ -139,6 +138,3 @@ module _ (G : Graph) where
   pub end-below : {x y : ℕ} → x < G .size → Reaches G x y → y < G .size
   end-below h here = h
   end-below h (there p e) = e .to
-
-  pub start-below : {x y : ℕ} → y < G .size → Reaches G x y → x < G .size
-  start-below h p = closed-back (λ w. w < G .size) h (λ w z _ e. e .from) p

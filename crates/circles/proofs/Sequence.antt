@@ -2,30 +2,30 @@
 use Prim.Native.Nat.{ℕ, zero, suc, _+_, _-_, _≤_, _<_}
 use native.Mathlib.Omega.{arith}
 use native.Mathlib.Nat.{le-refl}
-use native.Mathlib.Decide.{ℕ-discrete, decLt}
+use native.Mathlib.Decide.{decLt}
 use mathlib.Core.Path.{_≡_, refl, sym, ap, subst, _∙_}
-use mathlib.Core.Bool.{Bool, true, false, true≢false, false≢true, _||_}
-use mathlib.Core.List.{List, [], _∷_, _++_, map, List·Memᴰ·head, List·Memᴰ·tail, List·Memᴰ·not-nil, List·Memᴰ·cases-cons}
+use mathlib.Core.Bool.{Bool, true, false, true≢false, false≢true}
+use mathlib.Core.List.{List, [], _∷_, map, List·Memᴰ·head, List·Memᴰ·tail, List·Memᴰ·not-nil, List·Memᴰ·cases-cons}
 use mathlib.Core.Logic.{_⊎_, inl, inr, ⊎-elim, dite}
-use lib.ListN.{length, getD, length-map, length-append, List·getD-eq-default}
+use lib.ListN.{length, getD, length-map, List·getD-eq-default}
 use lib.Dec.{eqb}
-use borrow.Author.Tests.{eq-eqb, ne-eqb, eqb-true}
-use Rattle.circles.specs.Graph.{Graph, Together, LeastOf, Closed, here, _∈_}
-use Rattle.circles.specs.Ranked.{member, keep, upFrom, slots, firstOf, labelAt, labelsOf, circleOf, takeable, ranking, ranked}
+use borrow.Author.Tests.{eq-eqb, eqb-true}
+use Rattle.circles.specs.Graph.{Graph, LeastOf, Closed, _∈_}
+use Rattle.circles.specs.Ranked.{sumTo, circleAt, member, keep, upFrom, slots, labelAt, labelsOf, circleOf, takeable, ranking, ranked}
 use Rattle.circles.specs.Arrays.{joined}
-use Rattle.circles.specs.Laws.{Iff, Rising, end, step, circleAt, sumTo, declaredCount, Ordered, CanTake, Greedy, stop, take, circlesOf, Taken, Circles, Searches}
-use Rattle.circles.proofs.Lists.{not-true-false, or-parts, or-one, or-two, member-of, of-member, bool-same, keep-same, keep-here, keep-step, keep-none, in-slots, of-slots, first-cases, Hit, Miss, length-up, up-step, up-none}
-use Rattle.circles.proofs.Reach.{reaching-sound, reaching-complete, end-below}
-use Rattle.circles.proofs.Least.{together-sym, together-join, least-move, least-label, label-is, reached-declared}
-use Rattle.circles.proofs.Ranking.{ranking-takes, ranking-ends, ranking-zero, keep-le, heldBy, held-le, held-more, held-none, ranked-is, joined-cons, joined-none}
-use Rattle.circles.proofs.Listing.{some-long, label-below, label-declared, label-own, same-label, one-label, labelled, in-circle, of-circle, Parts, parts-of, of-parts, held-full, listed}
+use Rattle.circles.specs.Laws.{Rising, end, step, declaredCount, Ordered, CanTake, Greedy, stop, take, circlesOf, Taken, Circles, Searches}
+use Rattle.circles.proofs.Lists.{not-true-false, or-parts, or-one, or-two, member-of, of-member, bool-same, keep-same, keep-here, keep-step, keep-none, in-slots, first-cases, length-up, up-step, up-none}
+use Rattle.circles.proofs.Reach.{reaching-sound, reaching-complete}
+use Rattle.circles.proofs.Least.{least-label, label-is, reached-declared}
+use Rattle.circles.proofs.Ranking.{ranking-takes, ranking-ends, ranking-zero, keep-le, heldBy, held-more, held-none, ranked-is, joined-cons, joined-none}
+use Rattle.circles.proofs.Listing.{some-long, same-label, one-label, labelled, in-circle, of-circle, Parts, parts-of, of-parts, held-full, listed}
 
 -- ---- lists
 
 pub searches : (G : Graph) → Searches G
 searches G = record { searches = λ x y xl yl. (reaching-sound G x y, reaching-complete G x y yl) }
 
-at-map : (f : ℕ → List ℕ) (l : List ℕ) (i : ℕ) → i < length l → getD (map f l) i [] ≡ f (getD l i 0)
+pub at-map : (f : ℕ → List ℕ) (l : List ℕ) (i : ℕ) → i < length l → getD (map f l) i [] ≡ f (getD l i 0)
 at-map f [] i h = absurd (omega arith)
 at-map f (x ∷ l) zero h = refl
 at-map f (x ∷ l) (suc i) h = at-map f l i (omega arith)
@@ -62,10 +62,12 @@ rising-keep p k (suc n) = go (p k) refl (rising-keep p (suc k) n)
     go false e r = subst (λ (u : List ℕ). Rising k u) (sym (ap (keep p) (up-step k n) ∙ keep-step p k (upFrom (suc k) n) e)) (rising-less (omega arith) r)
 
 sum-front : (f : ℕ → ℕ) (n : ℕ) → sumTo f (suc n) ≡ f 0 + sumTo (λ i. f (suc i)) n
+unfolding sumTo
 sum-front f zero = omega arith
 sum-front f (suc n) = omega (arith, sum-front f n)
 
-joined-sum : (R : List (List ℕ)) → sumTo (λ i. length (circleAt R i)) (length R) ≡ length (joined R)
+pub joined-sum : (R : List (List ℕ)) → sumTo (λ i. length (circleAt R i)) (length R) ≡ length (joined R)
+unfolding sumTo
 joined-sum [] = ap length (sym joined-none)
 joined-sum (C ∷ R) = sum-front (λ i. length (circleAt (C ∷ R) i)) (length R) ∙ (let q : length C + sumTo (λ i. length (circleAt R i)) (length R) ≡ length (joined (C ∷ R)) = omega (arith, joined-sum R, joined-cons C R) in q)
 

@@ -4,12 +4,13 @@ use mathlib.Core.Path.{_≡_, refl}
 use mathlib.Core.List.{List, [], _∷_}
 use Rattle.circles.specs.Arrays.{graphOf}
 use Rattle.circles.specs.Ranked.{keep, firstOf, upFrom, has, wider, widened, reaching, reachings, labelIn, labelsBy, labelsOf, circleOf, settled, ready, takeable, ranking, rankedBy, ranked}
+use Rattle.circles.specs.Marks.{notDeclared, noSlot}
 
 abbrev U : ℕ
-U = 65534
+U = notDeclared
 
 abbrev N : ℕ
-N = 65535
+N = noSlot
 
 ga : List ℕ
 ga = 8 ∷ U ∷ U ∷ U ∷ N ∷ U ∷ U ∷ U ∷ 12 ∷ U ∷ U ∷ U ∷ 16 ∷ U ∷ U ∷ U ∷ 20 ∷ U ∷ U ∷ U ∷ 8 ∷ U ∷ U ∷ U ∷ []

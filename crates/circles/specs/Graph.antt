@@ -8,37 +8,37 @@ infix 4 _∈_
 abbrev pub _∈_ : ℕ → List ℕ → Type 0
 x ∈ l = List·Memᴰ x l
 
--- the slots 0 to size - 1, which of them are declared instances, and the arguments of each one's equation
+-- 4.4: the slots 0 to size - 1, which of them are declared instances, and the arguments of each one's equation
 pub record Graph : Type 0 where
   pub size : ℕ
   pub declared : ℕ → Bool
   pub args : ℕ → List ℕ
 
--- "y depends on x when x is an argument of y's equation, even where c makes it irrelevant."
+-- 5.1: y's equation uses x
 pub record Reads (G : Graph) (y x : ℕ) : Type 0 where
   pub from : y < G .size
   pub to : x < G .size
   pub argument : x ∈ G .args y
 
--- from x, by steps of E, one gets to the index
+-- 5.2: from x, by steps of E, one gets to the index
 pub data Path⁺ (E : ℕ → ℕ → Type 0) (x : ℕ) : ℕ → Type 0 where
   here : Path⁺ E x x
   there : {y z : ℕ} → Path⁺ E x y → E y z → Path⁺ E x z
 
--- x is y, or depends on what reaches y
+-- 5.2: x is y, or depends on what reaches y
 abbrev pub Reaches : Graph → ℕ → ℕ → Type 0
 Reaches G x y = Path⁺ (Reads G) x y
 
--- "A circle is a maximal set of instances that all reach each other, possibly one alone.": x and y are in one circle
+-- 5.3: x and y are in one circle
 abbrev pub Together : Graph → ℕ → ℕ → Type 0
 Together G x y = Reaches G x y × Reaches G y x
 
--- l is the least instance of x's circle
+-- 6.2: l is the least instance of x's circle
 pub record LeastOf (G : Graph) (x l : ℕ) : Type 0 where
   pub within : Together G x l
   pub least : (y : ℕ) → Together G x y → l ≤ y
 
--- "At most 4,092 instances exist", and what a declared instance reads is declared
+-- 4.5: every declared instance is one of the slots, and what it reads is declared
 pub record Closed (G : Graph) : Type 0 where
   pub bound : (x : ℕ) → G .declared x ≡ true → x < G .size
   pub closed : (x : ℕ) → G .declared x ≡ true → (y : ℕ) → y ∈ G .args x → G .declared y ≡ true

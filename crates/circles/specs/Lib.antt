@@ -1,3 +1,4 @@
+pub mod Marks
 pub mod Graph
 pub mod Ranked
 pub mod Arrays

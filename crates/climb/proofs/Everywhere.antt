@@ -10,12 +10,12 @@ use lib.Dec.{lit<}
 use lib.ListN.{length}
 use Rattle.sets.specs.Members.{_⊑_}
 use Rattle.sets.proofs.Order.{sub-trans, sub-of-eq}
-use Rattle.circles.specs.Ranked.{member, keep, upFrom}
+use Rattle.circles.specs.Ranked.{circleAt, member, keep, upFrom}
 use Rattle.climb.specs.System.{Assignment, System, Lawful, Least}
 use Rattle.climb.specs.Climb.{stage, Closed, roundsOf}
 use Rattle.climb.specs.Inside.{Small}
 use Rattle.climb.specs.Ordered.{climbedAll, InOrder, InOrderLeast, bottom, ThereIsLeast, LeastClosed}
-use Rattle.climb.specs.Circuit.{circleAt, afterOf, Ranked, LawfulCircles}
+use Rattle.climb.specs.Circuit.{afterOf, Ranked, LawfulCircles}
 use Rattle.climb.specs.ByRank.{LeastByRank, ByRankLeast}
 use Rattle.climb.proofs.Lists.{keep-is, keep-in, in-upFrom}
 use Rattle.climb.proofs.Systems.{local, lawful-inside, least-unique}

@@ -7,11 +7,11 @@ use Prim.Native.Nat.{ℕ, suc, _+_, _-_, _*_, _≤_, _<_, zero-le}
 use native.Mathlib.Nat.{le-refl, le-trans, mul-le-mul-left}
 use native.Mathlib.Omega.{arith}
 use lib.ListN.{length, List·getD-eq-default}
-use Rattle.circles.specs.Ranked.{member}
+use Rattle.circles.specs.Ranked.{sumTo, circleAt, member}
 use Rattle.climb.specs.System.{Assignment, System}
 use Rattle.climb.specs.Climb.{stage, roundsOf}
 use Rattle.climb.specs.Inside.{Small, Agree}
-use Rattle.climb.specs.Circuit.{sumTo, circleAt, dueOf, afterOf, workedOf, roundsAt, circlesTo, roundsTo, evaluationsTo, Ranked, Few, LawfulCircles, Kept}
+use Rattle.climb.specs.Circuit.{dueOf, afterOf, workedOf, roundsAt, circlesTo, roundsTo, evaluationsTo, Ranked, Few, LawfulCircles, Kept}
 use Rattle.climb.specs.ByRank.{LeastGiven, Before}
 use Rattle.climb.specs.CircuitLaws.{FinalLeast, AllFinal, LoadKept, ReplacedKept, LoadMost, Limits, AllLimits}
 use Rattle.climb.proofs.Lists.{either, le-or-lt}

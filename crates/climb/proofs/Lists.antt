@@ -91,17 +91,9 @@ pub any-cong : (f g : ℕ → Bool) (l : List ℕ) → ((x : ℕ) → x ∈ l �
 any-cong f g [] h = refl
 any-cong f g (y ∷ l) h = rw (h y (List·Memᴰ·head refl), any-cong f g l (λ x m. h x (List·Memᴰ·tail m)))
 
-pub all-cong : (f g : ℕ → Bool) (l : List ℕ) → ((x : ℕ) → x ∈ l → f x ≡ g x) → allOf f l ≡ allOf g l
-all-cong f g [] h = refl
-all-cong f g (y ∷ l) h = rw (h y (List·Memᴰ·head refl), all-cong f g l (λ x m. h x (List·Memᴰ·tail m)))
-
 pub all-is : (f : ℕ → Bool) (l : List ℕ) → allOf f l ≡ true → (x : ℕ) → x ∈ l → f x ≡ true
 all-is f (y ∷ l) h x (List·Memᴰ·head p) = rw p (and-is {a = f y} h .0)
 all-is f (y ∷ l) h x (List·Memᴰ·tail m) = all-is f l (and-is {a = f y} h .1) x m
-
-pub is-all : (f : ℕ → Bool) (l : List ℕ) → ((x : ℕ) → x ∈ l → f x ≡ true) → allOf f l ≡ true
-is-all f [] h = refl
-is-all f (y ∷ l) h = rw (h y (List·Memᴰ·head refl)) (is-all f l (λ x m. h x (List·Memᴰ·tail m)))
 
 -- ---- the first place
 

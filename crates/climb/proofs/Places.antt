@@ -3,7 +3,7 @@ use mathlib.Core.Path.{_≡_, refl, sym, ap, _∙_}
 use mathlib.Core.Bool.{Bool, true, false, cond, not, _&&_, _||_, or-false, and-assoc, and-true}
 use mathlib.Core.Logic.{⊎-elim}
 use mathlib.Core.List.{List, [], _∷_, _++_, map}
-use Prim.Native.Nat.{ℕ, zero, suc, _+_, _-_, _≤_, _<_}
+use Prim.Native.Nat.{ℕ, suc, _+_, _-_, _≤_, _<_}
 use native.Mathlib.Nat.{le-trans}
 use native.Mathlib.Omega.{arith}
 use lib.Dec.{eqb, ltb}
@@ -15,9 +15,10 @@ use Rattle.sets.specs.declared.Op.{Op}
 use Rattle.circles.specs.Arrays as arrays
 use Rattle.circles.specs.Arrays.{given}
 use Rattle.circles.specs.Ranked.{member, allOf, loneOf}
+use Rattle.circles.proofs.Lists.{default-is}
 use Rattle.climb.specs.System.{Assignment}
 use Rattle.climb.specs.Memory.{stores, puts}
-use Rattle.climb.specs.Wired.{readOf, Span, Rows, Wiring}
+use Rattle.climb.specs.Inner.Wired.{readOf, Span, Rows, Wiring}
 use Rattle.climb.proofs.Lists.{either, and-is}
 use Rattle.climb.proofs.Storing.{puts-map}
 
@@ -113,11 +114,6 @@ stored-together s s′ m ws ws′ g start end a b c d e =
     e ∙ ap (λ (z : List ℕ). puts s (slice start end m) z) (ap (slice start end) d ∙ slice-values ws m g start end a b c) ∙ puts-map (slice start end m) s g
 
 -- ---- the value of an equation
-
-pub default-is : (l : List ℕ) (x d e : ℕ) → x < length l → getD l x d ≡ getD l x e
-default-is [] x d e h = absurd (omega arith)
-default-is (y ∷ l) zero d e h = refl
-default-is (y ∷ l) (suc x) d e h = default-is l x d e (omega arith)
 
 pub value-is : (op : Op) (own n : ℕ) (v : Assignment) (a b : List ℕ) (x y z y′ z′ : ℕ) → x < length a → x < length b → y′ ≡ getD a x 0 → z′ ≡ getD b x 0
     → y ≡ readOf n v y′ → z ≡ readOf n v z′ → valueOf op own y z ≡ valueOf op own (readOf n v (getD a x 65534)) (readOf n v (getD b x 65534))

@@ -15,7 +15,8 @@ use Rattle.climb.specs.System.{Assignment, System, graphOf, weight}
 use Rattle.climb.specs.Climb.{stage, Closed, stillOf, leastFrom, roundsOf}
 use Rattle.climb.specs.Inside.{LawfulIn, Small}
 use Rattle.climb.specs.Laws.{StillMeans, Shuts, TakesUnique, TakesLast, Climbs, AllClimb, AgreeAlike, LoneOnce}
-use Rattle.climb.proofs.Lists.{either, le-or-lt, member-in, member-of, only-member, all-is, is-all, all-cong, Found, least-from}
+use Rattle.circles.proofs.Lists.{all-cong, of-all}
+use Rattle.climb.proofs.Lists.{either, le-or-lt, member-in, member-of, only-member, all-is, Found, least-from}
 use Rattle.climb.proofs.Systems.{local-in, weight-cong, weight-le}
 use Rattle.climb.proofs.Stages.{stage-out, stage-in, stage-small, next-closed, closed-next, closed-later, closes}
 
@@ -26,7 +27,7 @@ unfolding stillOf
 still-means S C v k = record {
   closed = λ h. next-closed S (member C) v k (λ x m. eqb-true (stage S (member C) v (suc k) x) (stage S (member C) v k x)
       (all-is (λ x. eqb (stage S (member C) v (suc k) x) (stage S (member C) v k x)) C h x (member-in C x m)));
-  still = λ c. is-all (λ x. eqb (stage S (member C) v (suc k) x) (stage S (member C) v k x)) C
+  still = λ c. of-all (λ x. eqb (stage S (member C) v (suc k) x) (stage S (member C) v k x)) C
       (λ x m. eq-eqb (stage S (member C) v (suc k) x) (stage S (member C) v k x) (closed-next S (member C) v k c x));
 }
 

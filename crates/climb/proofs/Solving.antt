@@ -10,12 +10,12 @@ use lib.ListN.{length}
 use Rattle.sets.specs.Members.{_⊑_}
 use Rattle.sets.proofs.Order.{sub-trans, sub-of-eq, sub-antisym}
 use Rattle.circles.specs.Graph.{_∈_}
-use Rattle.circles.specs.Ranked.{member}
+use Rattle.circles.specs.Ranked.{circleAt, member}
 use Rattle.climb.specs.System.{Assignment, System}
 use Rattle.climb.specs.Climb.{patch, stage, Closed, roundsOf}
 use Rattle.climb.specs.Inside.{GainingIn, Small, Agree, ClosedOn}
 use Rattle.climb.specs.Ordered.{climbed, climbedAll, And, Next, Ordered, Covered}
-use Rattle.climb.specs.Circuit.{circleAt, Ranked, LawfulCircles}
+use Rattle.climb.specs.Circuit.{Ranked, LawfulCircles}
 use Rattle.climb.specs.ByRank.{LeastGiven, Before, LeastByRank, ByRankUnique, InOrderRanked, InOrderByRank, AnyOrder}
 use Rattle.climb.proofs.Lists.{either}
 use Rattle.climb.proofs.Systems.{local-in}

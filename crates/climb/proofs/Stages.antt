@@ -9,7 +9,7 @@ use native.Mathlib.Omega.{arith}
 use lib.Dec.{lit<}
 use lib.ListN.{length}
 use Rattle.sets.specs.Members.{_⊑_}
-use Rattle.sets.proofs.Order.{sub-refl, sub-trans, sub-zero, sub-of-eq, sub-antisym}
+use Rattle.sets.proofs.Order.{sub-refl, sub-trans, sub-zero, sub-of-eq}
 use Rattle.circles.specs.Graph.{_∈_}
 use Rattle.climb.specs.System.{Assignment, System, weight}
 use Rattle.climb.specs.Climb.{patch, stage, Closed}
@@ -95,13 +95,6 @@ module _ (S : System) (C : ℕ → Bool) (v : Assignment) (g : GainingIn S C) wh
 
   end-least : (k : ℕ) (w : Assignment) → Agree S C v w → ClosedOn S C w → (x : ℕ) → C x ≡ true → stage S C v k x ⊑ w x
   end-least k w out pre x h = stage-within S C v g w out pre k x h
-
-  -- any two closed stages are the same
-  pub closed-same : (k j : ℕ) → Closed S C v k → Closed S C v j → (x : ℕ) → C x ≡ true → stage S C v k x ≡ stage S C v j x
-  closed-same k j c d x h = sub-antisym (below k j d) (below j k c)
-    where
-      below : (k j : ℕ) → Closed S C v j → stage S C v k x ⊑ stage S C v j x
-      below k j d = end-least k (stage S C v j) (λ x h y m o. sym (stage-out S C v j y o)) (λ x h. sub-of-eq (d .still x h)) x h
 
 pub closed-stays : ClosedStays
 closed-stays S C v g k c n x = stays S C v g k c n x

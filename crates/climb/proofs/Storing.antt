@@ -9,11 +9,12 @@ use borrow.Author.Tests.{eqb-true, eqb-false, eq-eqb}
 use lib.ListN.{length, set, length-set}
 use lib.Seq.{getD-set-same, getD-set-other}
 use Rattle.circles.specs.Ranked.{member, allOf, loneOf}
+use Rattle.circles.proofs.Lists.{all-cong}
 use Rattle.climb.specs.System.{Assignment, System, graphOf}
 use Rattle.climb.specs.Climb.{stage, stillOf}
 use Rattle.climb.specs.Inside.{GainingIn}
 use Rattle.climb.specs.Memory.{at, stores, puts, emptyOn, roundOn, stillOn, Within, InMemory}
-use Rattle.climb.proofs.Lists.{either, member-of, all-cong}
+use Rattle.climb.proofs.Lists.{either, member-of}
 use Rattle.climb.proofs.Stages.{stage-round}
 use Rattle.climb.proofs.Rounds.{lone-once}
 

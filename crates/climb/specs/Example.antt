@@ -1,4 +1,4 @@
--- Session A's load: its circle {8, 12, 16, 20} climbs from empty in five rounds, to four members. Assumes nothing.
+-- Session A's load (25.1, case 7): its circle of 8, 12, 16 and 20 climbs from empty to four members. Assumes nothing.
 use Prim.Native.Nat.{ℕ}
 use mathlib.Core.Path.{_≡_, refl}
 use mathlib.Core.List.{List, [], _∷_}
@@ -10,13 +10,14 @@ use Rattle.table.specs.Equations.{opNumber, aField, bField, argument, opOf, equ
 use Rattle.circles.specs.Ranked.{member, loneOf}
 use Rattle.climb.specs.System.{System, weight}
 use Rattle.climb.specs.Climb.{stage, stillOf, leastFrom, roundsOf}
-use Rattle.climb.specs.Wired.{evalOf, wired}
+use Rattle.climb.specs.Inner.Wired.{evalOf, wired}
+use Rattle.circles.specs.Marks.{notDeclared, noSlot}
 
 abbrev U : ℕ
-U = 65534
+U = notDeclared
 
 abbrev N : ℕ
-N = 65535
+N = noSlot
 
 -- the words of A's rules 0, 4, 8 and 20; the others are not read
 words : List ℕ
@@ -44,7 +45,7 @@ ring = 8 ∷ 12 ∷ 16 ∷ 20 ∷ []
 pub sessionA : System
 sessionA = wired 24 words owns first second lefts rules
 
--- "A's load circle {8, 12, 16, 20} takes 5 rounds, 4 members at the end."
+-- 25.1: case 7, in five rounds, with four members in the end
 five : roundsOf sessionA ring (λ x. 0) ≡ 5
 unfolding sessionA words first second lefts rules owns ring valueOf headAt constantAt opNumber aField bField argument opOf equationAt loneOf stage stillOf leastFrom roundsOf evalOf
 five = refl

@@ -6,22 +6,21 @@ use Rattle.sets.specs.Members.{_⊑_}
 use Rattle.circles.specs.Graph.{_∈_}
 use Rattle.climb.specs.System.{Assignment, System}
 
--- "State gaining so that it can be used with the outside of a circle fixed": gaining for the members of C, between assignments
--- that agree on what they read outside C
+-- 3.8: gaining for the members of C alone, between assignments that agree on what they read outside C
 abbrev pub GainingIn : System → (ℕ → Bool) → Type 0
 GainingIn S C = (v w : Assignment) (x : ℕ) → C x ≡ true → ((y : ℕ) → y ∈ S .args x → v y ⊑ w y)
     → ((y : ℕ) → y ∈ S .args x → C y ≡ false → v y ≡ w y) → S .eval v x ⊑ S .eval w x
 
--- the sets of the members stay sets of 64 codes
+-- 3.9: the sets of the members stay sets of 64 codes
 abbrev pub SmallIn : System → (ℕ → Bool) → Type 0
 SmallIn S C = (v : Assignment) (x : ℕ) → C x ≡ true → ((y : ℕ) → y ∈ S .args x → v y < 2 ^ 64) → S .eval v x < 2 ^ 64
 
--- what a climb of C asks of its system, and nothing of other circles
+-- 3.8, 3.9: what a climb of C asks of its system, and nothing of other circles
 pub record LawfulIn (S : System) (C : ℕ → Bool) : Type 0 where
   pub gaining : GainingIn S C
   pub small : SmallIn S C
 
--- "A set is 64 bits"
+-- 1.2: each set is one of 64 codes
 abbrev pub Small : Assignment → Type 0
 Small v = (x : ℕ) → v x < 2 ^ 64
 

@@ -8,7 +8,6 @@ pub mod ByRank
 pub mod Waived
 pub mod Restrict
 pub mod CircuitLaws
-pub mod Carried
 pub mod Memory
-pub mod Wired
 pub mod Example
+pub mod Inner

@@ -10,7 +10,7 @@ use Rattle.climb.specs.System.{Assignment, System, graphOf}
 use Rattle.climb.specs.Climb.{stage, stillOf}
 use Rattle.climb.specs.Inside.{GainingIn}
 
--- the sets that a list holds, empty past its end
+-- 7.2: the sets that a list holds, empty past its end
 abbrev pub at : List ℕ → Assignment
 at s x = getD s x 0
 
@@ -25,15 +25,15 @@ puts s [] ws = s
 puts s (x ∷ C) [] = s
 puts s (x ∷ C) (w ∷ ws) = puts (set s x w) C ws
 
--- "In round 1 of a circle that isn't lone, its values first become empty."
+-- 10.5: the circle's sets become empty
 abbrev pub emptyOn : List ℕ → List ℕ → List ℕ
 emptyOn C s = stores s C (λ x. 0)
 
--- "A round computes every equation of the circle from the values before that round and stores them together."
+-- 10.6: each value is worked out over s, which none of them has been stored in
 abbrev pub roundOn : System → List ℕ → List ℕ → List ℕ
 roundOn S C s = stores s C (S .eval (at s))
 
--- "a round alters nothing"
+-- 10.7: such a round would leave s as it is
 abbrev pub stillOn : System → List ℕ → List ℕ → Bool
 stillOn S C s = allOf (λ x. eqb (S .eval (at s) x) (at s x)) C
 
@@ -43,7 +43,7 @@ stillOn S C s = allOf (λ x. eqb (S .eval (at s) x) (at s x)) C
 abbrev pub Within : List ℕ → List ℕ → Type 0
 Within C s = (x : ℕ) → member C x ≡ true → x < length s
 
--- s holds v, or stage k of the climb from v: then emptying, a round and its test are those of the climb
+-- 10.10: s holds v, or stage k of the climb from v: then emptying, a round and its test are those of the climb
 pub record InMemory (S : System) (C : List ℕ) (v : Assignment) (s : List ℕ) : Type 0 where
   pub emptied : at s ≡ v → at (emptyOn C s) ≡ stage S (member C) v 0
   pub round : (k : ℕ) → at s ≡ stage S (member C) v k → at (roundOn S C s) ≡ stage S (member C) v (suc k)

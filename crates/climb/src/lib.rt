@@ -1,5 +1,6 @@
 // The climb: one round of one circle. The circle is members[start..end]; the slots are 0 to n - 1. Of slot x the arguments are a[x] and b[x],
 // the left node of its equation is left[x] and its rule in the table is rule[x].
+use circles::wide;
 use sets::value;
 use table::equation_at;
 ghost use mathlib.Core.Path.{_≡_};
@@ -12,13 +13,7 @@ ghost use lib.Seq.{slice, sets as row};
 ghost use Rattle.circles.specs.Arrays.{graphOf};
 ghost use Rattle.circles.specs.Ranked.{loneOf};
 ghost use Rattle.climb.specs.Memory.{at, puts, emptyOn, roundOn, stillOn};
-ghost use Rattle.climb.specs.Wired.{readOf, evalOf, wired, Row, Span, Rows};
-
-fn wide(x: u16) -> usize
-    ensures { λ r. ⌜ r ≡ x ⌝ }
-{
-    x as usize
-}
+ghost use Rattle.climb.specs.Inner.Wired.{readOf, evalOf, wired, Row, Span, Rows};
 
 // The set of an argument, empty where there is none.
 fn read(sets: &[u64], y: usize, n: usize) -> u64
@@ -162,7 +157,7 @@ pub fn empty_circle<'a>(members: &'a [u16], start: usize, end: usize, sets: &mut
     }
 }
 
-// Whether the circle has one instance that is not its own argument.
+// Whether the circle is lone: one instance, and not among its own arguments.
 pub fn lone<'a>(
     a: &'a [u16],
     b: &'a [u16],

@@ -8,6 +8,7 @@ use lib.Count.{ones}
 use lib.ListN.{take}
 use Rattle.sets.specs.Operations.{valueOf}
 use Rattle.sets.specs.Arguments.{argumentsOf, waivedOf}
+use Rattle.refusal.specs.Orders.{refusalBy}
 use Rattle.table.specs.First.{first, row, someBelow}
 use Rattle.table.specs.Words.{symbolCount, productionCount, synthesized, inherited, leftOf, childCount, childOf, childrenFrom, hasSet, occurs, ruleOf, headAt, constantAt}
 use Rattle.table.specs.Equations.{opNumber, aField, bField, argument, opOf, equationAt, usesA, usesB, usesC, misformed}
@@ -32,7 +33,7 @@ use Rattle.update.specs.Records.{padded, astray, beyond, shut, emptyRecord, ope
 use Rattle.update.specs.Memories.{filled, loaded, arrangedRow, replacedRow}
 use Rattle.update.specs.Refusals.{short, loadRefusal, miscounted, missing, nodesLeft, partsRefusal, pointsRefusal, stepRefusal}
 use Rattle.update.specs.Steps.{sownOf, survives, changedOf, roundNumber, fromOf, toOf, closedOf, roundRecord, roundMade, doneMade, dueFrom, stepOf, finished, runOf}
-use Rattle.update.specs.Calls.{Said, said, Left, Opened, Ranged, ranged, is-open, loadCall, pointsCall, stepCall, runCall}
+use Rattle.update.specs.Calls.{Said, said, Left, Opened, RunOutcome, runOutcome, is-open, loadCall, pointsCall, stepCall, runCall}
 use Rattle.update.specs.Cases.{blank}
 use Rattle.demands.specs.Engine.{ours}
 use Rattle.demands.specs.History.{at-start, by-run}
@@ -65,17 +66,17 @@ tree-N = (refl, refl, refl)
 abbrev opens : Part → Left (Said Opened)
 opens p = changeOf ours tableN nodesN ownsN (p ∷ [])
 
-abbrev runs : Part → Left (Said Ranged)
+abbrev runs : Part → Left (Said RunOutcome)
 runs p = changeRun ours tableN nodesN ownsN (p ∷ [])
 
 abbrev opens-then : Part → Part → Left (Said Opened)
 opens-then p q = pointsCall tableN (runs p .memory) (runs p .next) (q ∷ [])
 
-abbrev runs-then : Part → Part → Left (Said Ranged)
+abbrev runs-then : Part → Part → Left (Said RunOutcome)
 runs-then p q = runCall tableN (opens-then p q .memory) (opens-then p q .next) 100
 
 -- all that they answer and the sets at the end, in one equation, so that each is computed once
-abbrev told : Part → Part → Said Opened × Said Ranged × Said Opened × Said Ranged × List ℕ
+abbrev told : Part → Part → Said Opened × Said RunOutcome × Said Opened × Said RunOutcome × List ℕ
 told p q =
     let c = opens p in
     let r = runCall tableN (c .memory) (c .next) 100 in
@@ -89,16 +90,16 @@ two-after = madeAfter tableN nodesN clerkOne clerkTwo
 abbrev one-after : Part
 one-after = madeAfter tableN nodesN clerkTwo clerkOne
 
-load : loadRun ours tableN nodesN ownsN .answer ≡ said (ranged 5 (finished 5 5 0))
-unfolding tableN ones valueOf argumentsOf first row someBelow symbolCount productionCount synthesized inherited leftOf childCount childOf childrenFrom hasSet occurs ruleOf headAt constantAt opNumber aField bField argument opOf equationAt usesA usesB usesC misformed partOf frames misnamed refusalAt judgeTable tableA put judgeNodes judgeTree size childAt owner exchanged part formerly miscounted missing overlaps nodesLeft partsRefusal leavingRow comingRow nodesRow ownsRow shiftedRow formerRow newAt survivesAt keep firstOf upFrom has wider widened reaching reachings labelIn labelsBy labelsOf circleOf settled ready takeable ranking rankedBy ranked loneOf leastFrom declared placeOf ruleAt opAt named argsAt waivedOf waivedAt waives evalAt slotRow sownBy placesFrom padded astray beyond shut emptyRecord opened filled loaded arrangedRow replacedRow short loadRefusal pointsRefusal stepRefusal sownOf dueOf stores survives changedOf roundNumber fromOf toOf closedOf roundRecord roundMade doneMade dueFrom stepOf runOf loadCall pointsCall stepCall runCall blank movedBy
+load : loadRun ours tableN nodesN ownsN .answer ≡ said (runOutcome 5 (finished 5 5 0))
+unfolding tableN ones valueOf argumentsOf refusalBy first row someBelow symbolCount productionCount synthesized inherited leftOf childCount childOf childrenFrom hasSet occurs ruleOf headAt constantAt opNumber aField bField argument opOf equationAt usesA usesB usesC misformed partOf frames misnamed refusalAt judgeTable tableA put judgeNodes judgeTree size childAt owner exchanged part formerly miscounted missing overlaps nodesLeft partsRefusal leavingRow comingRow nodesRow ownsRow shiftedRow formerRow newAt survivesAt keep firstOf upFrom has wider widened reaching reachings labelIn labelsBy labelsOf circleOf settled ready takeable ranking rankedBy ranked loneOf leastFrom declared placeOf ruleAt opAt named argsAt waivedOf waivedAt waives evalAt slotRow sownBy placesFrom padded astray beyond shut emptyRecord opened filled loaded arrangedRow replacedRow short loadRefusal pointsRefusal stepRefusal sownOf dueOf stores survives changedOf roundNumber fromOf toOf closedOf roundRecord roundMade doneMade dueFrom stepOf runOf loadCall pointsCall stepCall runCall blank movedBy
 load = refl
 
-told-one : told clerkOne two-after ≡ (said is-open, said (ranged 5 (finished 5 5 3)), said is-open, said (ranged 7 (finished 7 7 5)), endN)
-unfolding tableN ones valueOf argumentsOf first row someBelow symbolCount productionCount synthesized inherited leftOf childCount childOf childrenFrom hasSet occurs ruleOf headAt constantAt opNumber aField bField argument opOf equationAt usesA usesB usesC misformed partOf frames misnamed refusalAt judgeTable tableA put judgeNodes judgeTree size childAt owner exchanged part formerly miscounted missing overlaps nodesLeft partsRefusal leavingRow comingRow nodesRow ownsRow shiftedRow formerRow newAt survivesAt keep firstOf upFrom has wider widened reaching reachings labelIn labelsBy labelsOf circleOf settled ready takeable ranking rankedBy ranked loneOf leastFrom declared placeOf ruleAt opAt named argsAt waivedOf waivedAt waives evalAt slotRow sownBy placesFrom padded astray beyond shut emptyRecord opened filled loaded arrangedRow replacedRow short loadRefusal pointsRefusal stepRefusal sownOf dueOf stores survives changedOf roundNumber fromOf toOf closedOf roundRecord roundMade doneMade dueFrom stepOf runOf loadCall pointsCall stepCall runCall blank movedBy
+told-one : told clerkOne two-after ≡ (said is-open, said (runOutcome 5 (finished 5 5 3)), said is-open, said (runOutcome 7 (finished 7 7 5)), endN)
+unfolding tableN ones valueOf argumentsOf refusalBy first row someBelow symbolCount productionCount synthesized inherited leftOf childCount childOf childrenFrom hasSet occurs ruleOf headAt constantAt opNumber aField bField argument opOf equationAt usesA usesB usesC misformed partOf frames misnamed refusalAt judgeTable tableA put judgeNodes judgeTree size childAt owner exchanged part formerly miscounted missing overlaps nodesLeft partsRefusal leavingRow comingRow nodesRow ownsRow shiftedRow formerRow newAt survivesAt keep firstOf upFrom has wider widened reaching reachings labelIn labelsBy labelsOf circleOf settled ready takeable ranking rankedBy ranked loneOf leastFrom declared placeOf ruleAt opAt named argsAt waivedOf waivedAt waives evalAt slotRow sownBy placesFrom padded astray beyond shut emptyRecord opened filled loaded arrangedRow replacedRow short loadRefusal pointsRefusal stepRefusal sownOf dueOf stores survives changedOf roundNumber fromOf toOf closedOf roundRecord roundMade doneMade dueFrom stepOf runOf loadCall pointsCall stepCall runCall blank movedBy
 told-one = refl
 
-told-other : told clerkTwo one-after ≡ (said is-open, said (ranged 5 (finished 5 5 3)), said is-open, said (ranged 3 (finished 3 3 0)), endN)
-unfolding tableN ones valueOf argumentsOf first row someBelow symbolCount productionCount synthesized inherited leftOf childCount childOf childrenFrom hasSet occurs ruleOf headAt constantAt opNumber aField bField argument opOf equationAt usesA usesB usesC misformed partOf frames misnamed refusalAt judgeTable tableA put judgeNodes judgeTree size childAt owner exchanged part formerly miscounted missing overlaps nodesLeft partsRefusal leavingRow comingRow nodesRow ownsRow shiftedRow formerRow newAt survivesAt keep firstOf upFrom has wider widened reaching reachings labelIn labelsBy labelsOf circleOf settled ready takeable ranking rankedBy ranked loneOf leastFrom declared placeOf ruleAt opAt named argsAt waivedOf waivedAt waives evalAt slotRow sownBy placesFrom padded astray beyond shut emptyRecord opened filled loaded arrangedRow replacedRow short loadRefusal pointsRefusal stepRefusal sownOf dueOf stores survives changedOf roundNumber fromOf toOf closedOf roundRecord roundMade doneMade dueFrom stepOf runOf loadCall pointsCall stepCall runCall blank movedBy
+told-other : told clerkTwo one-after ≡ (said is-open, said (runOutcome 5 (finished 5 5 3)), said is-open, said (runOutcome 3 (finished 3 3 0)), endN)
+unfolding tableN ones valueOf argumentsOf refusalBy first row someBelow symbolCount productionCount synthesized inherited leftOf childCount childOf childrenFrom hasSet occurs ruleOf headAt constantAt opNumber aField bField argument opOf equationAt usesA usesB usesC misformed partOf frames misnamed refusalAt judgeTable tableA put judgeNodes judgeTree size childAt owner exchanged part formerly miscounted missing overlaps nodesLeft partsRefusal leavingRow comingRow nodesRow ownsRow shiftedRow formerRow newAt survivesAt keep firstOf upFrom has wider widened reaching reachings labelIn labelsBy labelsOf circleOf settled ready takeable ranking rankedBy ranked loneOf leastFrom declared placeOf ruleAt opAt named argsAt waivedOf waivedAt waives evalAt slotRow sownBy placesFrom padded astray beyond shut emptyRecord opened filled loaded arrangedRow replacedRow short loadRefusal pointsRefusal stepRefusal sownOf dueOf stores survives changedOf roundNumber fromOf toOf closedOf roundRecord roundMade doneMade dueFrom stepOf runOf loadCall pointsCall stepCall runCall blank movedBy
 told-other = refl
 
 trees :
@@ -111,7 +112,7 @@ trees = (refl, refl, refl, refl)
 
 -- ---- as histories
 
-unfoldable order-of : (p q : Part) {k e x k′ e′ x′ : ℕ} {sets : List ℕ} → told p q ≡ (said is-open, said (ranged k (finished k e x)), said is-open, said (ranged k′ (finished k′ e′ x′)), sets)
+unfoldable order-of : (p q : Part) {k e x k′ e′ x′ : ℕ} {sets : List ℕ} → told p q ≡ (said is-open, said (runOutcome k (finished k e x)), said is-open, said (runOutcome k′ (finished k′ e′ x′)), sets)
     → OneThenOther ours tableN (loadRun ours tableN nodesN ownsN .next) (loadRun ours tableN nodesN ownsN .memory) p q (runs-then p q .next) (runs-then p q .memory)
 order-of p q {k} {e} {x} {k′} {e′} {x′} h =
     next {circles = k′} {evaluations = e′} {changed = x′}

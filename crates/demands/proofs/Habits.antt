@@ -5,15 +5,14 @@ use mathlib.Core.List.{List}
 use Prim.Native.Nat.{ℕ, zero, suc}
 use lib.Dec.{ltb}
 use lib.ListN.{length, take}
-use Rattle.circles.specs.Ranked.{ranked}
+use Rattle.circles.specs.Ranked.{circleAt, ranked}
 use Rattle.climb.specs.System.{System, graphOf}
-use Rattle.climb.specs.Circuit.{circleAt}
 use Rattle.wire.specs.Instances.{system}
 use Rattle.update.specs.declared.Record.{Record}
 use Rattle.update.specs.Records.{shut}
 use Rattle.update.specs.Memories.{Memory}
 use Rattle.update.specs.Refusals.{stepRefusal}
-use Rattle.update.specs.Steps.{roundNumber, fromOf, toOf, closedOf, roundRecord, Made, roundMade, doneMade, dueFrom, stepOf, Ran, runOf}
+use Rattle.update.specs.Steps.{roundNumber, fromOf, toOf, closedOf, roundRecord, Made, roundMade, doneMade, dueFrom, stepOf, RunMade, runOf}
 use Rattle.update.specs.Calls.{unless, systemOf, circlesOf, withSets, runLeft, stepCall, runCall}
 use Rattle.demands.specs.Habits.{stepBy, runBy, taught, TaughtIsOurs}
 use Rattle.demands.proofs.Rows.{again}
@@ -39,21 +38,21 @@ step-nodes S R r b s =
     either-nodes (ltb i (length R)) (roundMade S (circleAt R i) r i (roundNumber r i) s) (doneMade S r b s) (r .nodes)
     (round-nodes S (circleAt R i) r i (roundNumber r i) s) refl
 
-taught-run : (t : List ℕ) (n : ℕ) (m : Memory) (r : Record) → runBy taught t n m r ≡ runOf (systemOf t m r) (circlesOf t m r) (m .before) n r (m .sets)
+taught-run : (t : List ℕ) (n : ℕ) (m : Memory) (r : Record) → runBy taught t n m r ≡ runOf (systemOf t m r) (circlesOf t m r) (m .earlier) n r (m .sets)
 unfolding runBy runOf stepBy stepOf dueFrom roundMade
 taught-run t zero m r = refl
 taught-run t (suc n) m r =
     let S = systemOf t m r in
     let R = circlesOf t m r in
-    let k = stepOf S R r (m .before) (m .sets) in
-    let e : k .next .nodes ≡ r .nodes = step-nodes S R r (m .before) (m .sets) in
-    again (k .outcome) (k .next) (k .sets) (λ r s. runBy taught t n (withSets m s) r) (runOf S R (m .before) n)
+    let k = stepOf S R r (m .earlier) (m .sets) in
+    let e : k .next .nodes ≡ r .nodes = step-nodes S R r (m .earlier) (m .sets) in
+    again (k .outcome) (k .next) (k .sets) (λ r s. runBy taught t n (withSets m s) r) (runOf S R (m .earlier) n)
     (taught-run t n (withSets m (k .sets)) (k .next)
-    ∙ ap (λ (i : ℕ). let S = system t (take i (m .productions)) (take i (m .owns)) in runOf S (ranked (graphOf S)) (m .before) n (k .next) (k .sets)) e)
+    ∙ ap (λ (i : ℕ). let S = system t (take i (m .productions)) (take i (m .owns)) in runOf S (ranked (graphOf S)) (m .earlier) n (k .next) (k .sets)) e)
 
 pub taught-is-ours : TaughtIsOurs
 unfolding stepBy stepCall stepOf dueFrom roundMade runCall
 taught-is-ours = record {
   step = λ t m r. refl;
-  run = λ t m r budget. ap (λ (a : Ran). unless (stepRefusal t m r) r m (runLeft m a)) (taught-run t budget m r);
+  run = λ t m r budget. ap (λ (a : RunMade). unless (stepRefusal t m r) r m (runLeft m a)) (taught-run t budget m r);
 }

@@ -6,10 +6,9 @@ use mathlib.Core.List.{List, [], _∷_, List·Memᴰ·head, List·Memᴰ·tail, 
 use Prim.Native.Nat.{ℕ, _<_}
 use native.Mathlib.Omega.{arith}
 use lib.ListN.{length}
-use Rattle.circles.specs.Ranked.{member}
+use Rattle.circles.specs.Ranked.{circleAt, member}
 use Rattle.climb.specs.System.{Assignment, System}
 use Rattle.climb.specs.Inside.{Small}
-use Rattle.climb.specs.Circuit.{circleAt}
 use Rattle.climb.specs.Memory.{at}
 use Rattle.climb.proofs.Lists.{either}
 use Rattle.climb.proofs.Working.{untouched, after-small}
@@ -19,7 +18,7 @@ use Rattle.wire.specs.Laws.{Words}
 use Rattle.update.specs.declared.Record.{Record}
 use Rattle.update.specs.Records.{shut}
 use Rattle.update.specs.Memories.{Memory}
-use Rattle.update.specs.Steps.{sownOf, Ran}
+use Rattle.update.specs.Steps.{sownOf, RunMade}
 use Rattle.update.specs.Calls.{withSets}
 use Rattle.update.specs.Points.{WordsIn}
 use Rattle.update.specs.Course.{ranOf, wholeOf, Finishes}
@@ -48,20 +47,20 @@ module _ {t ns owns : List ℕ} {r : Record} {m : Memory} (q : Ready t ns owns r
       record {
         sound = q .sound;
         closed = f .next ∙ ap (λ b. shut b (r .nodes)) (q .held) ∙ ap (shut true) (q .count);
-        roomy = record { productions = q .roomy .productions; owns = q .roomy .owns; sets = omega (arith, q .roomy .sets, f .places); before = q .roomy .before };
+        roomy = record { productions = q .roomy .productions; owns = q .roomy .owns; sets = omega (arith, q .roomy .sets, f .places); earlier = q .roomy .earlier };
         nodes = q .nodes;
         owns′ = q .owns′;
         behind = q .behind;
         small = small (ranOf S R r (m .sets) n) f;
         empty = empty (ranOf S R r (m .sets) n) f;
-        emptied = λ x e. ap (λ (u : Assignment). u x) (q .before) ∙ q .empty x e;
+        emptied = λ x e. ap (λ (u : Assignment). u x) (q .earlier) ∙ q .empty x e;
         least = running.least-at-done S R r (m .sets) (begins q) (q .kept) n h;
       }
     where
-      small : (a : Ran) → Finishes S R r (m .sets) a → Small (at (a .sets))
+      small : (a : RunMade) → Finishes S R r (m .sets) a → Small (at (a .sets))
       small a f x = rw (ap (λ (u : Assignment). u x) (f .value)) (after-small S R (sownOf r) (at (m .sets)) (lawful (q .sound)) (q .small) (length R) x)
 
-      empty : (a : Ran) → Finishes S R r (m .sets) a → (x : ℕ) → declared t ns x ≡ false → at (a .sets) x ≡ 0
+      empty : (a : RunMade) → Finishes S R r (m .sets) a → (x : ℕ) → declared t ns x ≡ false → at (a .sets) x ≡ 0
       empty a f x h = ap (λ (u : Assignment). u x) (f .value) ∙ untouched S R (sownOf r) (at (m .sets)) (length R) x (λ k l. in-none x h k) ∙ q .empty x h
 
 settled-as : {t ns owns : List ℕ} {r r′ : Record} {m m′ : Memory} (q : Ready t ns owns r m) (n : ℕ) → wholeOf (system t ns owns) (circles t ns owns) r (m .sets) < n

@@ -15,7 +15,7 @@ use Rattle.wire.proofs.Points.{step-nodes, step-owns}
 use Rattle.update.specs.declared.Record.{Record}
 use Rattle.update.specs.Records.{shut}
 use Rattle.update.specs.Memories.{Memory, nodesOf}
-use Rattle.update.specs.Refused.{Present}
+use Rattle.update.specs.Refusals.{Present}
 use Rattle.update.specs.Calls.{Left, Said, Opened, leaving, is-open}
 use Rattle.update.specs.Points.{WordsIn}
 use Rattle.update.proofs.Asking.{present-means, apart-means, tests-row}
@@ -71,7 +71,7 @@ module _ {E : Engine} {t ns owns : List ℕ} {r : Record} {m : Memory} (q : Fini
 
   pub accepted-row : Demand1 E → (ps : List Part) {r′ : Record} {m′ : Memory} → E .replace t m r ps ≡ leaving is-open r′ m′ → Row t ns 0 ps
   accepted-row d ps h =
-      let c = d .replace t m r ps .tells .given .by0 .0 (ap (λ (l : Left (Said Opened)). refusalIn (l .answer)) h) in
+      let c = d .replace t m r ps .tells .given .none .0 (ap (λ (l : Left (Said Opened)). refusalIn (l .answer)) h) in
       let b = c .1 .1 .1 .1 .1 .1 .1 in
       let there : Present (length ns) ps = rw count at (b .0) in
       let e = held-nodes in

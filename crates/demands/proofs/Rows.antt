@@ -8,10 +8,10 @@ use native.Mathlib.Numerals.{add-one}
 use native.Mathlib.Omega.{arith}
 use lib.Dec.{eqb}
 use lib.ListN.{length, take}
-use Rattle.circles.specs.Ranked.{keep, upFrom, ranked}
+use Rattle.circles.specs.Ranked.{circleAt, keep, upFrom, ranked}
 use Rattle.climb.specs.System.{Assignment, System, graphOf}
 use Rattle.climb.specs.Climb.{leastFrom}
-use Rattle.climb.specs.Circuit.{circleAt, dueOf}
+use Rattle.climb.specs.Circuit.{dueOf}
 use Rattle.climb.specs.Memory.{at}
 use Rattle.climb.proofs.Lists.{le-or-lt}
 use Rattle.wire.specs.Instances.{system}
@@ -20,8 +20,8 @@ use Rattle.update.specs.Records.{isOpen, isLoad, beyond}
 use Rattle.update.specs.Memories.{Memory}
 use Rattle.update.specs.Refusals.{heldRefusal, stepRefusal}
 use Rattle.update.specs.Within.{Roomy}
-use Rattle.update.specs.Steps.{sownOf, survives, changedOf, dueFrom, doneMade, Outcome, round, done, stepOf, continued, Ending, paused, finished, Ran, runOf}
-use Rattle.update.specs.Calls.{leaving, Ranged, ranged, unless, systemOf, circlesOf, withSets, stepLeft, runLeft, stepCall, runCall}
+use Rattle.update.specs.Steps.{sownOf, survives, changedOf, dueFrom, doneMade, Outcome, round, done, stepOf, continued, Ending, paused, finished, RunMade, runOf}
+use Rattle.update.specs.Calls.{leaving, RunOutcome, runOutcome, unless, systemOf, circlesOf, withSets, stepLeft, runLeft, stepCall, runCall}
 use Rattle.update.specs.Course.{ranOf, wholeOf}
 use Rattle.update.proofs.Within.{short-means}
 use Rattle.update.proofs.Refusing.{all-exactly}
@@ -46,7 +46,7 @@ step-alike : (S : System) (R : List (List ℕ)) (r : Record) (b b′ s : List �
 unfolding stepOf doneMade
 step-alike S R r b b′ s e = rw (due-alike S R r b b′ s e, changed-alike S r b b′ s e)
 
-pub again : (o : Outcome) (r : Record) (s : List ℕ) (f g : Record → List ℕ → Ran) → f r s ≡ g r s → continued o r s f ≡ continued o r s g
+pub again : (o : Outcome) (r : Record) (s : List ℕ) (f g : Record → List ℕ → RunMade) → f r s ≡ g r s → continued o r s f ≡ continued o r s g
 again (round a k c d) r s f g e = rw e
 again (done a c d) r s f g e = refl
 
@@ -63,14 +63,14 @@ never-both : {c e x : ℕ} → paused ≡ finished c e x → ⊥
 never-both h = let z : _≡_ {A = ℕ} 0 1 = cc in absurd (omega arith)
 
 taken-step : (t : List ℕ) (m : Memory) (r : Record) → stepRefusal t m r ≡ 0
-    → stepCall t m r ≡ stepLeft m (stepOf (systemOf t m r) (circlesOf t m r) r (m .before) (m .sets))
+    → stepCall t m r ≡ stepLeft m (stepOf (systemOf t m r) (circlesOf t m r) r (m .earlier) (m .sets))
 unfolding stepCall
-taken-step t m r e = ap (λ (n : ℕ). unless n r m (stepLeft m (stepOf (systemOf t m r) (circlesOf t m r) r (m .before) (m .sets)))) e
+taken-step t m r e = ap (λ (n : ℕ). unless n r m (stepLeft m (stepOf (systemOf t m r) (circlesOf t m r) r (m .earlier) (m .sets)))) e
 
 taken-run : (t : List ℕ) (m : Memory) (r : Record) (k : ℕ) → stepRefusal t m r ≡ 0
-    → runCall t m r k ≡ runLeft m (runOf (systemOf t m r) (circlesOf t m r) (m .before) k r (m .sets))
+    → runCall t m r k ≡ runLeft m (runOf (systemOf t m r) (circlesOf t m r) (m .earlier) k r (m .sets))
 unfolding runCall
-taken-run t m r k e = ap (λ (n : ℕ). unless n r m (runLeft m (runOf (systemOf t m r) (circlesOf t m r) (m .before) k r (m .sets)))) e
+taken-run t m r k e = ap (λ (n : ℕ). unless n r m (runLeft m (runOf (systemOf t m r) (circlesOf t m r) (m .earlier) k r (m .sets)))) e
 
 module _ {t ns owns : List ℕ} {r : Record} {m : Memory} (q : Ready t ns owns r m) where
   abbrev S : System
@@ -80,7 +80,7 @@ module _ {t ns owns : List ℕ} {r : Record} {m : Memory} (q : Ready t ns owns r
   R = circles t ns owns
 
   -- what a run of n rounds comes to by the definition of a run
-  abbrev run : ℕ → Ran
+  abbrev run : ℕ → RunMade
   run n = ranOf S R r (m .sets) n
 
   abbrev whole : ℕ
@@ -115,10 +115,10 @@ module _ {t ns owns : List ℕ} {r : Record} {m : Memory} (q : Ready t ns owns r
         productions = q .roomy .productions;
         owns = q .roomy .owns;
         sets = omega (arith, q .roomy .sets, h .places);
-        before = q .roomy .before;
+        earlier = q .roomy .earlier;
       } in
       let tree : heldRefusal t (now s) r′ ≡ 0 = rw (h .count, q .nodes, q .owns′) (q .sound .tree) in
-      all-exactly t (now s) r′ .step .by0 .1 (short-means (now s) .1 roomy, (q .sound .table, (h .within, (h .held, (tree, h .isopen)))))
+      all-exactly t (now s) r′ .step .none .1 (short-means (now s) .1 roomy, (q .sound .table, (h .within, (h .held, (tree, h .isopen)))))
 
   system-is : (r′ : Record) (s : List ℕ) → Same r′ s → systemOf t (now s) r′ ≡ S
   system-is r′ s h =
@@ -128,13 +128,13 @@ module _ {t ns owns : List ℕ} {r : Record} {m : Memory} (q : Ready t ns owns r
 
   step-is : (r′ : Record) (s : List ℕ) → Same r′ s → stepCall t (now s) r′ ≡ stepLeft (now s) (stepOf S R r′ (m .sets) s)
   step-is r′ s h = taken-step t (now s) r′ (accepts r′ s h)
-      ∙ ap (λ (k : System). stepLeft (now s) (stepOf k (ranked (graphOf k)) r′ (m .before) s)) (system-is r′ s h)
-      ∙ ap (stepLeft (now s)) (step-alike S R r′ (m .before) (m .sets) s (q .before))
+      ∙ ap (λ (k : System). stepLeft (now s) (stepOf k (ranked (graphOf k)) r′ (m .earlier) s)) (system-is r′ s h)
+      ∙ ap (stepLeft (now s)) (step-alike S R r′ (m .earlier) (m .sets) s (q .earlier))
 
   run-is : (r′ : Record) (s : List ℕ) → Same r′ s → (k : ℕ) → runCall t (now s) r′ k ≡ runLeft (now s) (runOf S R (m .sets) k r′ s)
   run-is r′ s h k = taken-run t (now s) r′ k (accepts r′ s h)
-      ∙ ap (λ (k′ : System). runLeft (now s) (runOf k′ (ranked (graphOf k′)) (m .before) k r′ s)) (system-is r′ s h)
-      ∙ ap (runLeft (now s)) (run-alike S R (m .before) (m .sets) (q .before) k r′ s)
+      ∙ ap (λ (k′ : System). runLeft (now s) (runOf k′ (ranked (graphOf k′)) (m .earlier) k r′ s)) (system-is r′ s h)
+      ∙ ap (runLeft (now s)) (run-alike S R (m .earlier) (m .sets) (q .earlier) k r′ s)
 
   -- ---- after n rounds, by whatever row
 
@@ -151,7 +151,7 @@ module _ {t ns owns : List ℕ} {r : Record} {m : Memory} (q : Ready t ns owns r
     memory : m′ ≡ now (run (n + k) .sets)
 
   -- what the definition of a run gives there
-  abbrev more : ℕ → ℕ → Ran
+  abbrev more : ℕ → ℕ → RunMade
   more n k = runOf S R (m .sets) k (run n .next) (run n .sets)
 
   behind : (n k j : ℕ) (e : Ending) (r′ : Record) (m′ : Memory) → n ≤ whole → more n k .rounds ≡ j → more n k .ending ≡ e → more n k .next ≡ r′ → now (more n k .sets) ≡ m′
@@ -160,17 +160,17 @@ module _ {t ns owns : List ℕ} {r : Record} {m : Memory} (q : Ready t ns owns r
       let p = pauses S R r (m .sets) (begins q) n l in
       let o = runs-on S R (m .sets) n k r (m .sets) (p .ending) in
       record {
-        rounds = ap (λ (x : Ran). x .rounds) o ∙ ap (λ (x : ℕ). x + more n k .rounds) (p .rounds) ∙ ap (λ (x : ℕ). n + x) a;
-        ending = ap (λ (x : Ran). x .ending) o ∙ b;
-        next = sym c ∙ sym (ap (λ (x : Ran). x .next) o);
-        memory = sym d ∙ sym (ap (λ (x : Ran). now (x .sets)) o);
+        rounds = ap (λ (x : RunMade). x .rounds) o ∙ ap (λ (x : ℕ). x + more n k .rounds) (p .rounds) ∙ ap (λ (x : ℕ). n + x) a;
+        ending = ap (λ (x : RunMade). x .ending) o ∙ b;
+        next = sym c ∙ sym (ap (λ (x : RunMade). x .next) o);
+        memory = sym d ∙ sym (ap (λ (x : RunMade). now (x .sets)) o);
       }
 
-  behind-run : (n k j : ℕ) (e : Ending) (r₁ r′ : Record) (m₁ m′ : Memory) → Amid n r₁ m₁ → runCall t m₁ r₁ k ≡ leaving (ranged j e) r′ m′ → Behind n k j e r′ m′
+  behind-run : (n k j : ℕ) (e : Ending) (r₁ r′ : Record) (m₁ m′ : Memory) → Amid n r₁ m₁ → runCall t m₁ r₁ k ≡ leaving (runOutcome j e) r′ m′ → Behind n k j e r′ m′
   behind-run n k j e r₁ r′ m₁ m′ a h =
-      let g : runCall t (now (run n .sets)) (run n .next) k ≡ leaving (ranged j e) r′ m′ = rw (a .next, a .memory) at h in
+      let g : runCall t (now (run n .sets)) (run n .next) k ≡ leaving (runOutcome j e) r′ m′ = rw (a .next, a .memory) at h in
       let f = parts (sym (run-is (run n .next) (run n .sets) (stays n (a .time)) k) ∙ g) in
-      behind n k j e r′ m′ (a .time) (ap (λ (x : Ranged). x .rounds) (f .answer)) (ap (λ (x : Ranged). x .ending) (f .answer)) (f .next) (f .memory)
+      behind n k j e r′ m′ (a .time) (ap (λ (x : RunOutcome). x .rounds) (f .answer)) (ap (λ (x : RunOutcome). x .ending) (f .answer)) (f .next) (f .memory)
 
   -- a step is a run of one round
   behind-round : (n least k size : ℕ) (closed : Bool) (r₁ r′ : Record) (m₁ m′ : Memory) → Amid n r₁ m₁ → stepCall t m₁ r₁ ≡ leaving (round least k size closed) r′ m′
@@ -228,7 +228,7 @@ module _ {t ns owns : List ℕ} {r : Record} {m : Memory} (q : Ready t ns owns r
   -- ---- what comes next
 
   -- a run of k there is what is left of the whole run
-  pub run-there : (n k : ℕ) (r₁ : Record) (m₁ : Memory) → Amid n r₁ m₁ → runCall t m₁ r₁ k ≡ leaving (ranged (more n k .rounds) (more n k .ending)) (more n k .next) (now (more n k .sets))
+  pub run-there : (n k : ℕ) (r₁ : Record) (m₁ : Memory) → Amid n r₁ m₁ → runCall t m₁ r₁ k ≡ leaving (runOutcome (more n k .rounds) (more n k .ending)) (more n k .next) (now (more n k .sets))
   run-there n k r₁ m₁ a = rw (a .next, a .memory) (run-is (run n .next) (run n .sets) (stays n (a .time)) k)
 
   pub step-there : (n : ℕ) (r₁ : Record) (m₁ : Memory) → Amid n r₁ m₁ → stepCall t m₁ r₁ ≡ stepLeft (now (run n .sets)) (stepOf S R (run n .next) (m .sets) (run n .sets))
@@ -242,13 +242,13 @@ module _ {t ns owns : List ℕ} {r : Record} {m : Memory} (q : Ready t ns owns r
     pub x : ℕ
     pub next : Record
     pub memory : Memory
-    pub call : runCall t m₁ r₁ k ≡ leaving (ranged rounds (finished c e x)) next memory
+    pub call : runCall t m₁ r₁ k ≡ leaving (runOutcome rounds (finished c e x)) next memory
 
   pub to-done : (n k : ℕ) (r₁ : Record) (m₁ : Memory) → Amid n r₁ m₁ → whole < n + k → Done k r₁ m₁
   to-done n k r₁ m₁ a l =
       let f = finishes S R r (m .sets) (begins q) (n + k) l in
       let o = runs-on S R (m .sets) n k r (m .sets) (pauses S R r (m .sets) (begins q) n (a .time) .ending) in
-      let e = sym (ap (λ (y : Ran). y .ending) o) ∙ f .ending in
+      let e = sym (ap (λ (y : RunMade). y .ending) o) ∙ f .ending in
       record {
         rounds = more n k .rounds;
         c = _;
@@ -256,5 +256,5 @@ module _ {t ns owns : List ℕ} {r : Record} {m : Memory} (q : Ready t ns owns r
         x = _;
         next = more n k .next;
         memory = now (more n k .sets);
-        call = run-there n k r₁ m₁ a ∙ ap (λ (y : Ending). leaving (ranged (more n k .rounds) y) (more n k .next) (now (more n k .sets))) e;
+        call = run-there n k r₁ m₁ a ∙ ap (λ (y : Ending). leaving (runOutcome (more n k .rounds) y) (more n k .next) (now (more n k .sets))) e;
       }

@@ -15,7 +15,7 @@ use Rattle.update.specs.declared.Record.{Record}
 use Rattle.update.specs.Records.{evaluationsMost}
 use Rattle.update.specs.Memories.{Memory, nodesOf}
 use Rattle.update.specs.Refusals.{nodesLeft, partsRefusal}
-use Rattle.update.specs.Refused.{placed}
+use Rattle.update.proofs.Conditions.{placed}
 use Rattle.update.specs.Calls.{Said, refused, said, Left, Opened, leaving, is-open}
 use Rattle.update.proofs.Asking.{present-means, apart-means, row-tests}
 use Rattle.update.proofs.Ready.{tree-equal, tree-sound}
@@ -93,7 +93,7 @@ module _ {E : Engine} {t ns owns : List ℕ} {r r′ : Record} {m m′ : Memory}
 
   placed-so : {Rest : Type 0} → Rest → placed t m r (q ∷ []) Rest
   placed-so x =
-      let a = d .replace t m r (p ∷ []) .tells .given .by0 .0 (ap (λ (l : Left (Said Opened)). refusalIn (l .answer)) c) in
+      let a = d .replace t m r (p ∷ []) .tells .given .none .0 (ap (λ (l : Left (Said Opened)). refusalIn (l .answer)) c) in
       let b = row-tests t ns 0 (q ∷ []) row in
       let n = count s in
       let e = held-nodes s in
@@ -111,7 +111,7 @@ module _ {E : Engine} {t ns owns : List ℕ} {r r′ : Record} {m m′ : Memory}
   gives-8 : judgeNodes t ns (0 ∷ []) ≡ 0 → 512 < length (nodesRow t ns (q ∷ [])) → E .replace t m r (q ∷ []) .answer ≡ refused 8
   gives-8 tree h =
       let n = left-is tree in
-      refused-by (E .replace t m r (q ∷ []) .answer) 8 (omega arith) (d .replace t m r (q ∷ []) .tells .given .by8 .1 (placed-so (rw n h)))
+      refused-by (E .replace t m r (q ∷ []) .answer) 8 (omega arith) (d .replace t m r (q ∷ []) .tells .given .some 8 (omega arith) .1 (placed-so (rw n h)))
 
   gives-21 : judgeNodes t ns (0 ∷ []) ≡ 0 → length (nodesRow t ns (q ∷ [])) ≤ 512 → Waiver t (nodesRow t ns (q ∷ [])) → E .replace t m r (q ∷ []) .answer ≡ refused 21
   gives-21 tree h v =
@@ -119,7 +119,7 @@ module _ {E : Engine} {t ns owns : List ℕ} {r r′ : Record} {m m′ : Memory}
       let e = held-nodes s in
       let parts : partsRefusal t (nodesOf m (r .nodes)) (q ∷ []) ≡ 0 = rw e (row-tests t ns 0 (q ∷ []) row .2) in
       let waiver : Waiver t (nodesRow t (nodesOf m (r .nodes)) (q ∷ [])) = rw e v in
-      refused-by (E .replace t m r (q ∷ []) .answer) 21 (omega arith) (d .replace t m r (q ∷ []) .tells .given .by21 .1 (placed-so (rw n h, (parts, waiver))))
+      refused-by (E .replace t m r (q ∷ []) .answer) 21 (omega arith) (d .replace t m r (q ∷ []) .tells .given .some 21 (omega arith) .1 (placed-so (rw n h, (parts, waiver))))
 
 pub between-alone : BetweenAlone
 between-alone E d₁ d₂ t ns owns r r₁ m m₁ h p q w v n a =

@@ -10,13 +10,14 @@ use native.Mathlib.Omega.{arith}
 use lib.Dec.{eqb}
 use lib.ListN.{length, getD, List·getD-eq-default}
 use lib.Seq.{ext-getD}
-use Rattle.circles.specs.Ranked.{member, anyOf}
+use Rattle.circles.specs.Ranked.{sumTo, circleAt, member, anyOf}
+use Rattle.circles.proofs.Lists.{first-member}
 use Rattle.climb.specs.System.{Assignment, System, graphOf}
 use Rattle.climb.specs.Climb.{stage, roundsOf}
-use Rattle.climb.specs.Circuit.{sumTo, circleAt, dueOf, afterOf, workedOf, roundsAt, circlesTo, roundsTo, evaluationsTo}
+use Rattle.climb.specs.Circuit.{dueOf, afterOf, workedOf, roundsAt, circlesTo, roundsTo, evaluationsTo}
 use Rattle.climb.specs.ByRank.{LeastByRank}
 use Rattle.climb.specs.Restrict.{Solved}
-use Rattle.climb.specs.Laws.{Climbs, Alike}
+use Rattle.climb.specs.Laws.{Climbs, ClimbsAlike}
 use Rattle.climb.specs.Memory.{at}
 use Rattle.climb.proofs.Lists.{either, le-or-lt, member-of, any-cong}
 use Rattle.climb.proofs.Systems.{weight-cong}
@@ -29,8 +30,8 @@ use Rattle.climb.proofs.Finishing.{agree-final}
 use Rattle.wire.specs.Instances.{declared, system}
 use Rattle.update.specs.declared.Record.{Record}
 use Rattle.update.specs.Memories.{Memory}
-use Rattle.update.specs.Steps.{sownOf, changedOf, Outcome, round, done, stepOf, Ending, paused, finished, Ran, runOf}
-use Rattle.update.specs.Calls.{Said, said, Left, leaving, Ranged, ranged, withSets, stepCall, runCall}
+use Rattle.update.specs.Steps.{sownOf, changedOf, Outcome, round, done, stepOf, Ending, paused, finished, RunMade, runOf}
+use Rattle.update.specs.Calls.{Said, said, Left, leaving, RunOutcome, runOutcome, withSets, stepCall, runCall}
 use Rattle.update.specs.Course.{ranOf, wholeOf, Scheduled, recordAt, recordBehind, NextRound, Finishes}
 use Rattle.update.proofs.Scheduling.{one-schedule}
 use Rattle.update.proofs.Stepping.{Ended, step-law}
@@ -43,7 +44,7 @@ use Rattle.demands.specs.Asked.{LeastSets, OneLeast}
 use Rattle.demands.specs.Work.{dueBy, climbBy, overDue, Climbing, RoundTurn, Makes}
 use Rattle.demands.specs.Demands.{WorkedOn, Counts, Concludes, Update}
 use Rattle.demands.specs.Counting.{countedAt, countedBehind, Uncut}
-use Rattle.demands.proofs.Circles.{first-member, one-by-rank, loadable, loadable-by-rank}
+use Rattle.demands.proofs.Circles.{one-by-rank, loadable, loadable-by-rank}
 use Rattle.demands.proofs.Due.{due-exactly}
 use Rattle.demands.proofs.Rows.{Amid, amid, ended, step-there, run-there}
 use Rattle.demands.proofs.Histories.{finished-settled}
@@ -111,7 +112,7 @@ module _ {t ns owns : List ℕ} {r : Record} {m : Memory} (q : Ready t ns owns r
   abbrev climb : ℕ → ℕ
   climb = climbBy S R v
 
-  abbrev run : ℕ → Ran
+  abbrev run : ℕ → RunMade
   run n = ranOf S R r (m .sets) n
 
   -- the rounds of the definition of an update, and a budget with which it is done
@@ -202,7 +203,7 @@ module _ {t ns owns : List ℕ} {r : Record} {m : Memory} (q : Ready t ns owns r
   }
 
   -- the values with which a circle is worked are for its climb the least ones
-  alike : (i : ℕ) → i < length R → Alike S (C i) (afterOf S R (sownOf r) b i) v
+  alike : (i : ℕ) → i < length R → ClimbsAlike S (C i) (afterOf S R (sownOf r) b i) v
   alike i l = agree-alike S (C i) (lawful (q .sound) i .gaining) (afterOf S R (sownOf r) b i) v
       (λ x h y a o. sym (agree-final S R (in-rank (q .sound)) (sownOf r) b i (omega arith) x h y a o) ∙ ap (λ (u : Assignment). u y) after-all)
 
@@ -257,7 +258,7 @@ module _ {t ns owns : List ℕ} {r : Record} {m : Memory} (q : Ready t ns owns r
   -- ---- runs
 
   -- a run of k behind n rounds makes what is left of a run of n + k
-  abbrev more : ℕ → ℕ → Ran
+  abbrev more : ℕ → ℕ → RunMade
   more n k = runOf S R (m .sets) k (run n .next) (run n .sets)
 
   record Rest (n k : ℕ) : Type 0 where
@@ -270,31 +271,31 @@ module _ {t ns owns : List ℕ} {r : Record} {m : Memory} (q : Ready t ns owns r
       let p = running.pauses S R r (m .sets) (begins q) n l in
       let w = running.runs-on S R (m .sets) n k r (m .sets) (p .ending) in
       record {
-        rounds = ap (λ (x : Ran). x .rounds) w ∙ ap (λ (x : ℕ). x + more n k .rounds) (p .rounds);
-        ending = ap (λ (x : Ran). x .ending) w;
-        sets = ap (λ (x : Ran). x .sets) w;
+        rounds = ap (λ (x : RunMade). x .rounds) w ∙ ap (λ (x : ℕ). x + more n k .rounds) (p .rounds);
+        ending = ap (λ (x : RunMade). x .ending) w;
+        sets = ap (λ (x : RunMade). x .sets) w;
       }
 
-  there : (n k : ℕ) (r₁ : Record) (m₁ : Memory) → Amid q n r₁ m₁ → runCall t m₁ r₁ k .answer ≡ said (ranged (more n k .rounds) (more n k .ending))
-  there n k r₁ m₁ a = ap (λ (x : Left (Said Ranged)). x .answer) (run-there q n k r₁ m₁ a)
+  there : (n k : ℕ) (r₁ : Record) (m₁ : Memory) → Amid q n r₁ m₁ → runCall t m₁ r₁ k .answer ≡ said (runOutcome (more n k .rounds) (more n k .ending))
+  there n k r₁ m₁ a = ap (λ (x : Left (Said RunOutcome)). x .answer) (run-there q n k r₁ m₁ a)
 
-  run-pauses : (n k : ℕ) (r₁ : Record) (m₁ : Memory) → Amid q n r₁ m₁ → n + k ≤ whole → runCall t m₁ r₁ k .answer ≡ said (ranged k paused)
+  run-pauses : (n k : ℕ) (r₁ : Record) (m₁ : Memory) → Amid q n r₁ m₁ → n + k ≤ whole → runCall t m₁ r₁ k .answer ≡ said (runOutcome k paused)
   run-pauses n k r₁ m₁ a l =
       let p = running.pauses S R r (m .sets) (begins q) (n + k) l in
       let d = rest n k (a .time) in
       let e : more n k .rounds ≡ k = omega (arith, d .rounds, p .rounds) in
-      there n k r₁ m₁ a ∙ ap (λ (x : ℕ). said (ranged x (more n k .ending))) e ∙ ap (λ (x : Ending). said (ranged k x)) (sym (d .ending) ∙ p .ending)
+      there n k r₁ m₁ a ∙ ap (λ (x : ℕ). said (runOutcome x (more n k .ending))) e ∙ ap (λ (x : Ending). said (runOutcome k x)) (sym (d .ending) ∙ p .ending)
 
   -- a run from the opening on
-  opening-run : (n : ℕ) → n ≤ whole → runCall t m r n ≡ leaving (ranged n paused) (run n .next) (withSets m (run n .sets))
+  opening-run : (n : ℕ) → n ≤ whole → runCall t m r n ≡ leaving (runOutcome n paused) (run n .next) (withSets m (run n .sets))
   unfolding runOf
   opening-run n l =
       let p = running.pauses S R r (m .sets) (begins q) n l in
       run-there q 0 n r m (amid q at-start)
-      ∙ ap (λ (x : ℕ). leaving (ranged x (run n .ending)) (run n .next) (withSets m (run n .sets))) (p .rounds)
-      ∙ ap (λ (x : Ending). leaving (ranged n x) (run n .next) (withSets m (run n .sets))) (p .ending)
+      ∙ ap (λ (x : ℕ). leaving (runOutcome x (run n .ending)) (run n .next) (withSets m (run n .sets))) (p .rounds)
+      ∙ ap (λ (x : Ending). leaving (runOutcome n x) (run n .next) (withSets m (run n .sets))) (p .ending)
 
-  same : (n : ℕ) (r₁ : Record) (m₁ : Memory) → Amid q n r₁ m₁ → runCall t m r n ≡ leaving (ranged n paused) r₁ m₁
+  same : (n : ℕ) (r₁ : Record) (m₁ : Memory) → Amid q n r₁ m₁ → runCall t m r n ≡ leaving (runOutcome n paused) r₁ m₁
   same n r₁ m₁ a = opening-run n (a .time) ∙ rw (a .next, a .memory)
 
   -- ---- the circles worked on are the due ones
@@ -354,7 +355,7 @@ module _ {t ns owns : List ℕ} {r : Record} {m : Memory} (q : Ready t ns owns r
   unfolding runOf
   next-run n l =
       let w = running.runs-on S R (m .sets) n 1 r (m .sets) (running.pauses S R r (m .sets) (begins q) n (omega arith) .ending) in
-      ap (λ (x : Ran). x .next) w ∙ rw (running.nth-round S R r (m .sets) (begins q) n l .made .outcome)
+      ap (λ (x : RunMade). x .next) w ∙ rw (running.nth-round S R r (m .sets) (begins q) n l .made .outcome)
 
   counted-is : (i k : ℕ) → i ≤ length R → recordAt S R r (m .sets) i k ≡ countedAt r R due climb i k
   counted-is i k l = rw (circles-are i l, evaluations-are i l)
@@ -398,7 +399,7 @@ module _ {t ns owns : List ℕ} {r : Record} {m : Memory} (q : Ready t ns owns r
         both (numbers (sym (d .ending) ∙ f .ending)) (counts-are (run (d .budget) .sets) (f .value ∙ after-all))
 
     run-ends : (n k : ℕ) (r₁ : Record) (m₁ m₂ : Memory) → Amid q n r₁ m₁ → m₂ ≡ withSets m (run whole .sets) → whole < n + k → (j : ℕ) × (n + j ≡ whole)
-        × Concludes (ranged j (finished (overDue due (λ i. 1) (length R)) (overDue due (λ i. length (C i) * climb i) (length R)) changed)) m₂ (runCall t m₁ r₁ k)
+        × Concludes (runOutcome j (finished (overDue due (λ i. 1) (length R)) (overDue due (λ i. length (C i) * climb i) (length R)) changed)) m₂ (runCall t m₁ r₁ k)
     run-ends n k r₁ m₁ m₂ a e l =
         let f = running.finishes S R r (m .sets) (begins q) (n + k) l in
         let d = rest n k (a .time) in
@@ -406,8 +407,8 @@ module _ {t ns owns : List ℕ} {r : Record} {m : Memory} (q : Ready t ns owns r
           more n k .rounds,
           omega (arith, f .rounds, d .rounds),
           record {
-            answer = there n k r₁ m₁ a ∙ ap (λ (x : Ending). said (ranged (more n k .rounds) x)) (sym (d .ending) ∙ f .ending ∙ c);
-            memory = ap (λ (x : Left (Said Ranged)). x .memory) (run-there q n k r₁ m₁ a) ∙ ap (withSets m) (sym (d .sets) ∙ same-sets (n + k) l) ∙ sym e;
+            answer = there n k r₁ m₁ a ∙ ap (λ (x : Ending). said (runOutcome (more n k .rounds) x)) (sym (d .ending) ∙ f .ending ∙ c);
+            memory = ap (λ (x : Left (Said RunOutcome)). x .memory) (run-there q n k r₁ m₁ a) ∙ ap (withSets m) (sym (d .sets) ∙ same-sets (n + k) l) ∙ sym e;
           },
         )
 
@@ -416,7 +417,7 @@ module _ {t ns owns : List ℕ} {r : Record} {m : Memory} (q : Ready t ns owns r
         let o = one-schedule S R (sownOf r) b in
         record {
           starts = λ x. ap (λ (u : Assignment). u x) starts;
-          copied = λ x. ap (λ (u : Assignment). u x) (q .before ∙ starts);
+          copied = λ x. ap (λ (u : Assignment). u x) (q .earlier ∙ starts);
           exactly = λ i. due-exactly S fresh before v (C i);
           worked = worked;
           climbing = climbing;

@@ -52,7 +52,8 @@ endN =
     ∷ 4 ∷ 0 ∷ 0 ∷ 0 ∷ 1 ∷ 0 ∷ 0 ∷ 0
     ∷ 4 ∷ 0 ∷ 0 ∷ 0 ∷ 0 ∷ 0 ∷ 0 ∷ 0 ∷ []
 
--- behind a load of that tree ours takes both orders, so that what `TwoClerks` asks for can be had. The tree and the sets are the same; one order takes 12 evaluations, the other 8
+-- 23.14: behind a load of that tree ours takes both orders, so that what `TwoClerks` asks for can be had. The tree and the sets are the same;
+-- one order takes 12 evaluations, the other 8
 pub record BothTaken : Type 0 where
   pub r : Record
   pub r₁ : Record
@@ -75,7 +76,7 @@ pub record BothTaken : Type 0 where
 abbrev pub nodesW : List ℕ
 nodesW = 0 ∷ 2 ∷ 1 ∷ []
 
--- where clerk one is first, the first account would wait for what the second has from it: 21 refuses that. Where clerk two is first, both are taken
+-- 23.16: where clerk one is first, the first account would wait for what the second has from it: 21 refuses that. Where clerk two is first, both are taken
 pub record WaiverBetween (E : Engine) : Type 0 where
   pub r : Record
   pub r₁ : Record
@@ -85,7 +86,7 @@ pub record WaiverBetween (E : Engine) : Type 0 where
   pub first : E .replace tableN m r (clerkOne ∷ []) .answer ≡ refused 21
   pub other : OneThenOther E tableN r m clerkTwo (madeAfter tableN nodesW clerkTwo clerkOne) r₁ m₁
 
--- of whatever engine meets the demands
+-- 23.16: of whatever engine meets the demands
 abbrev pub EveryWaiverBetween : Type 0
 EveryWaiverBetween = (E : Engine) → Demand1 E → Demand2 E → WaiverBetween E
 
@@ -110,7 +111,7 @@ clears = record { point = 1; nodes = 1 ∷ []; owns = 0 ∷ [] }
 abbrev pub grows : Part
 grows = record { point = 510; nodes = 0 ∷ 1 ∷ 1 ∷ []; owns = 0 ∷ 0 ∷ 0 ∷ [] }
 
--- where clerk two is first there would be 513 nodes: 8 refuses that. Where clerk one is first, both are taken
+-- 23.16: where clerk two is first there would be 513 nodes: 8 refuses that. Where clerk one is first, both are taken
 pub record RoomBetween (E : Engine) : Type 0 where
   pub r : Record
   pub r₁ : Record
@@ -120,5 +121,6 @@ pub record RoomBetween (E : Engine) : Type 0 where
   pub first : E .replace tableB m r (grows ∷ []) .answer ≡ refused 8
   pub one : OneThenOther E tableB r m clears (madeAfter tableB nodesR clears grows) r₁ m₁
 
+-- 23.16: of whatever engine meets the demands
 abbrev pub EveryRoomBetween : Type 0
 EveryRoomBetween = (E : Engine) → Demand1 E → Demand2 E → RoomBetween E

@@ -27,11 +27,11 @@ nodeE = 0 ∷ []
 abbrev pub ownE : List ℕ
 ownE = 0 ∷ []
 
--- a load takes it
+-- 15.5: a load takes it
 abbrev pub HeldLoadable : Type 0
 HeldLoadable = Loadable tableE nodeE ownE
 
--- by rank nothing is in the first set, so that the third has reason 0
+-- 6.3: by rank nothing is in the first set, so that the third has reason 0
 pub record HeldSets (v : Assignment) : Type 0 where
   pub first : v 0 ≡ 0
   pub second : v 1 ≡ 1
@@ -40,11 +40,11 @@ pub record HeldSets (v : Assignment) : Type 0 where
 abbrev pub HeldByRank : Type 0
 HeldByRank = (v : Assignment) → LeastSets (system tableE nodeE ownE) v → HeldSets v
 
--- with reason 0 in the first set and an empty third all is consistent too, and nothing consistent is below both
+-- 5.6: with reason 0 in the first set and an empty third all is consistent too, and nothing consistent is below both
 abbrev pub NoneLeast : Type 0
 NoneLeast = (v : Assignment) → LeastOfAll (system tableE nodeE ownE) v → ⊥
 
--- so demand 2 without ranks would be wrong: whoever meets it as it stands has a history whose sets are not the least of all
+-- 23.3: so demand 2 without ranks would be wrong: whoever meets it as it stands has a history whose sets are not the least of all
 abbrev pub NotOfAll : Type 0
 NotOfAll = (E : Engine) → Demand2 E
     → ((t ns owns : List ℕ) (r : Record) (m : Memory) → History E t ns owns r m → LeastOfAll (system t ns owns) (at (m .sets))) → ⊥

@@ -7,10 +7,10 @@ use Prim.Native.Nat.{ℕ, suc, _+_, _≤_, _<_}
 use lib.Dec.{eqb}
 use lib.ListN.{length, getD}
 use Rattle.circles.specs.Graph.{_∈_}
-use Rattle.circles.specs.Ranked.{member, loneOf}
+use Rattle.circles.specs.Ranked.{sumTo, circleAt, member, loneOf}
 use Rattle.climb.specs.System.{Assignment, System, graphOf, weight}
 use Rattle.climb.specs.Climb.{stage, roundsOf}
-use Rattle.climb.specs.Circuit.{sumTo, circleAt, dueOf}
+use Rattle.climb.specs.Circuit.{dueOf}
 use Rattle.climb.specs.Laws.{Takes}
 use Rattle.climb.specs.Memory.{at}
 use Rattle.update.specs.Memories.{Memory}
@@ -19,16 +19,16 @@ use Rattle.update.specs.Calls.{Said, said, Left, withSets}
 
 -- ---- due circles
 
--- the circle C is due: it has an instance that is fresh, or it reads, outside itself, a set that is in v not what it was before
+-- 10.2: the circle C is due: it has an instance that is fresh, or it reads, outside itself, a set that is in v not what it was before
 pub data Due (S : System) (fresh : ℕ → Bool) (before v : Assignment) (C : List ℕ) : Type 0 where
   by-fresh : (x : ℕ) → member C x ≡ true → fresh x ≡ true → Due S fresh before v C
   by-argument : (x y : ℕ) → member C x ≡ true → y ∈ S .args x → member C y ≡ false → v y ≢ before y → Due S fresh before v C
 
--- `dueOf` computes it
+-- 10.2: `dueOf` computes it
 abbrev pub DueExactly : Type 0
 DueExactly = (S : System) (fresh : ℕ → Bool) (before v : Assignment) (C : List ℕ) → (dueOf S fresh before v C ≡ true) ↔ Due S fresh before v C
 
--- whether circle i of R is due, and the rounds of its climb, where v are the least sets
+-- 10.2, 10.10: whether circle i of R is due, and the rounds of its climb, where v are the least sets
 abbrev pub dueBy : System → List (List ℕ) → (ℕ → Bool) → Assignment → Assignment → ℕ → Bool
 dueBy S R fresh before v i = dueOf S fresh before v (circleAt R i)
 
@@ -41,7 +41,7 @@ overDue due f n = sumTo (λ i. cond (due i) (f i) 0) n
 
 -- ---- climbs
 
--- the climb of the circle C from empty, the outside held as it is in v: it takes so many rounds
+-- 10.10: the climb of the circle C from empty, the outside held as it is in v: it takes so many rounds
 pub record Climbing (S : System) (C : List ℕ) (v : Assignment) (rounds : ℕ) : Type 0 where
   -- the last of them closes the circle, and none before it
   pub takes : Takes S C v rounds
@@ -53,8 +53,8 @@ pub record Climbing (S : System) (C : List ℕ) (v : Assignment) (rounds : ℕ) 
 
 -- ---- turns and rounds
 
--- due circles come one after the other by rank, each with all its rounds: after n rounds it is the turn of round k of circle i. climb i are the rounds
--- of circle i, of `count` circles
+-- 10.3, 23.6: due circles come one after the other by rank, each with all its rounds: after n rounds it is the turn of round k of circle i. climb i are the
+-- rounds of circle i, of `count` circles
 pub record RoundTurn (count : ℕ) (due : ℕ → Bool) (climb : ℕ → ℕ) (i k n : ℕ) : Type 0 where
   pub rank : i < count
   pub worked : due i ≡ true
@@ -62,7 +62,7 @@ pub record RoundTurn (count : ℕ) (due : ℕ → Bool) (climb : ℕ → ℕ) (i
   pub few : k ≤ climb i
   pub time : suc n ≡ overDue due climb i + k
 
--- the step in memory m that makes round k of this climb
+-- 10.8, 23.6: the step in memory m that makes round k of this climb
 pub record Makes (S : System) (C : List ℕ) (v : Assignment) (rounds k : ℕ) (m : Memory) (left : Left (Said Outcome)) : Type 0 where
   -- it tells the circle's first instance, the round, the circle's size, and that the circle is closed if this is its last round
   pub answer : left .answer ≡ said (round (getD C 0 0) k (length C) (eqb k rounds))

@@ -6,13 +6,13 @@ use Prim.Native.Nat.{ℕ, zero, suc, _-_, _<_}
 use borrow.Author.Tests.{eq-eqb}
 use lib.Dec.{eqb, ltb}
 use lib.ListN.{length, getD}
-use Rattle.circles.specs.Ranked.{member, anyOf, allOf, keep, upFrom, loneOf}
+use Rattle.circles.specs.Ranked.{circleAt, member, anyOf, allOf, keep, upFrom, loneOf}
 use Rattle.climb.specs.System.{Assignment, System, graphOf}
 use Rattle.climb.specs.Climb.{leastFrom}
-use Rattle.climb.specs.Circuit.{circleAt, dueOf}
+use Rattle.climb.specs.Circuit.{dueOf}
 use Rattle.climb.specs.Memory.{at, emptyOn}
 use Rattle.circles.proofs.Lists.{or-two}
-use Rattle.wire.specs.ArrayLaws.{Alike}
+use Rattle.wire.specs.Inner.ArrayLaws.{SameSystem}
 use Rattle.wire.proofs.Holding.{round-alike}
 use Rattle.update.specs.declared.Record.{Record}
 use Rattle.update.specs.Records.{isLoad, shut}
@@ -22,7 +22,7 @@ any-alike : (C : List ℕ) (p q : ℕ → Bool) → ((x : ℕ) → member C x �
 any-alike [] p q h = refl
 any-alike (x ∷ C) p q h = rw (h x (rw (eq-eqb x x refl)), any-alike C p q (λ y m. h y (or-two (eqb y x) (member C y) m)))
 
-module _ (S S′ : System) (k : Alike S S′) (R : List (List ℕ)) (inside : (i x : ℕ) → member (circleAt R i) x ≡ true → S .declared x ≡ true)
+module _ (S S′ : System) (k : SameSystem S S′) (R : List (List ℕ)) (inside : (i x : ℕ) → member (circleAt R i) x ≡ true → S .declared x ≡ true)
     (bound : (x : ℕ) → S .declared x ≡ true → x < S .size) where
   args-same : (i x : ℕ) → member (circleAt R i) x ≡ true → S .args x ≡ S′ .args x
   args-same i x m = k .args x (bound x (inside i x m))
@@ -34,9 +34,9 @@ module _ (S S′ : System) (k : Alike S S′) (R : List (List ℕ)) (inside : (i
       let moved : ℕ → Bool = λ y. not (member C y) && not (eqb (v y) (b y)) in
       any-alike C (λ x. sown x || anyOf moved (S .args x)) (λ x. sown x || anyOf moved (S′ .args x)) (λ x m. ap (λ (l : List ℕ). sown x || anyOf moved l) (args-same i x m))
 
-  from-same : (r : Record) (before sets : List ℕ) → dueFrom S R r before sets ≡ dueFrom S′ R r before sets
+  from-same : (r : Record) (earlier sets : List ℕ) → dueFrom S R r earlier sets ≡ dueFrom S′ R r earlier sets
   unfolding dueFrom
-  from-same r before sets = λ j. leastFrom (λ i. due-same (sownOf r) (at before) (at sets) i j) (length R - r .rank) (r .rank)
+  from-same r earlier sets = λ j. leastFrom (λ i. due-same (sownOf r) (at earlier) (at sets) i j) (length R - r .rank) (r .rank)
 
   -- ---- a round of circle i
 
@@ -72,22 +72,22 @@ module _ (S S′ : System) (k : Alike S S′) (R : List (List ℕ)) (inside : (i
 
   -- ---- done, and a step
 
-  done-same : (r : Record) (before sets : List ℕ) → doneMade S r before sets ≡ doneMade S′ r before sets
+  done-same : (r : Record) (earlier sets : List ℕ) → doneMade S r earlier sets ≡ doneMade S′ r earlier sets
   unfolding doneMade changedOf
-  done-same r before sets = λ j. record {
-    outcome = finished (r .circles) (r .evaluations) (cond (isLoad (r .«open»)) 0 (length (keep (λ x. k .declared x j && survives r x && not (eqb (at sets x) (at before x))) (upFrom 0 (k .size j)))));
+  done-same r earlier sets = λ j. record {
+    outcome = finished (r .circles) (r .evaluations) (cond (isLoad (r .«open»)) 0 (length (keep (λ x. k .declared x j && survives r x && not (eqb (at sets x) (at earlier x))) (upFrom 0 (k .size j)))));
     next = shut (r .held) (r .nodes);
     sets = sets;
   }
 
-  pub step-same : (r : Record) (before sets : List ℕ) → stepOf S R r before sets ≡ stepOf S′ R r before sets
+  pub step-same : (r : Record) (earlier sets : List ℕ) → stepOf S R r earlier sets ≡ stepOf S′ R r earlier sets
   unfolding stepOf
-  step-same r before sets =
-      let i = dueFrom S R r before sets in
-      (λ j. cond (ltb i (length R)) (round-same r i (roundNumber r i) sets j) (done-same r before sets j))
-      ∙ ap (λ (i : ℕ). cond (ltb i (length R)) (roundMade S′ (circleAt R i) r i (roundNumber r i) sets) (doneMade S′ r before sets)) (from-same r before sets)
+  step-same r earlier sets =
+      let i = dueFrom S R r earlier sets in
+      (λ j. cond (ltb i (length R)) (round-same r i (roundNumber r i) sets j) (done-same r earlier sets j))
+      ∙ ap (λ (i : ℕ). cond (ltb i (length R)) (roundMade S′ (circleAt R i) r i (roundNumber r i) sets) (doneMade S′ r earlier sets)) (from-same r earlier sets)
 
-  pub run-same : (before : List ℕ) (n : ℕ) (r : Record) (sets : List ℕ) → runOf S R before n r sets ≡ runOf S′ R before n r sets
+  pub run-same : (earlier : List ℕ) (n : ℕ) (r : Record) (sets : List ℕ) → runOf S R earlier n r sets ≡ runOf S′ R earlier n r sets
   unfolding runOf
-  run-same before zero r sets = refl
-  run-same before (suc n) r sets = λ j. continued (step-same r before sets j .outcome) (step-same r before sets j .next) (step-same r before sets j .sets) (λ q s. run-same before n q s j)
+  run-same earlier zero r sets = refl
+  run-same earlier (suc n) r sets = λ j. continued (step-same r earlier sets j .outcome) (step-same r earlier sets j .next) (step-same r earlier sets j .sets) (λ q s. run-same earlier n q s j)

@@ -1,22 +1,21 @@
 -- The ranked circles of a graph: none is empty, each has its least instance first, and a slot is a member exactly where that is its label. Assumes nothing.
 use mathlib.Core.Path.{_≡_, refl, ap, sym, _∙_, subst}
-use mathlib.Core.Bool.{true, false, false≢true}
+use mathlib.Core.Bool.{true, false≢true}
 use mathlib.Core.Logic.{⊎-elim}
-use mathlib.Core.List.{List, [], _∷_, map}
-use Prim.Native.Nat.{ℕ, zero, suc, _+_, _≤_, _<_}
+use mathlib.Core.List.{List, [], _∷_}
+use Prim.Native.Nat.{ℕ, zero, suc, _≤_, _<_}
 use native.Mathlib.Nat.{le-of-suc-le-suc, not-suc-le-zero}
 use native.Mathlib.Omega.{arith}
 use borrow.Author.Tests.{eq-eqb, eqb-true}
 use lib.Dec.{eqb}
-use lib.ListN.{length, getD, length-map, length-append}
+use lib.ListN.{length, getD, length-map}
 use Rattle.circles.specs.Graph.{Graph, _∈_, Closed, LeastOf, here}
-use Rattle.circles.specs.Ranked.{member, labelsOf, labelAt, circleOf, ranked}
-use Rattle.circles.specs.Arrays.{joined}
-use Rattle.circles.specs.Laws.{Rising, step, sumTo, circleAt, declaredCount, Greedy, stop, take, circlesOf}
-use Rattle.circles.proofs.Lists.{bool-same, of-member, or-parts}
+use Rattle.circles.specs.Ranked.{circleAt, member, labelsOf, labelAt, circleOf, ranked}
+use Rattle.circles.specs.Laws.{Rising, step, declaredCount, Greedy, stop, take, circlesOf}
+use Rattle.circles.proofs.Lists.{bool-same, of-member, or-parts, some-long}
 use Rattle.circles.proofs.Listing.{of-circle, labelled}
-use Rattle.circles.proofs.Sequence.{circles, taken, ordered}
-use Rattle.rounds.specs.Arranged.{Listed}
+use Rattle.circles.proofs.Sequence.{circles, taken, ordered, joined-sum, at-map}
+use Rattle.update_round.specs.Inner.Arranged.{Listed}
 
 rising-least : {k : ℕ} (l : List ℕ) (y : ℕ) → Rising k l → member l y ≡ true → k ≤ y
 rising-least [] y r m = absurd (false≢true m)
@@ -27,24 +26,6 @@ rising-first : {k : ℕ} (l : List ℕ) (y : ℕ) → Rising k l → member l y 
 rising-first [] y r m = absurd (false≢true m)
 rising-first (x ∷ l) y (step h r) m =
     (rw (eq-eqb x x refl), ⊎-elim (λ e. let q = eqb-true y x e in omega arith) (λ e. let q = rising-least l y r e in omega arith) (or-parts (eqb y x) (member l y) m))
-
-map-at : (f : ℕ → List ℕ) (l : List ℕ) (i : ℕ) → i < length l → getD (map f l) i [] ≡ f (getD l i 0)
-map-at f [] i h = absurd (not-suc-le-zero h)
-map-at f (x ∷ l) zero h = refl
-map-at f (x ∷ l) (suc i) h = map-at f l i (le-of-suc-le-suc h)
-
-sum-front : (f : ℕ → ℕ) (n : ℕ) → sumTo f (suc n) ≡ f 0 + sumTo (λ i. f (suc i)) n
-sum-front f zero = omega arith
-sum-front f (suc n) = let q = sum-front f n in omega arith
-
-joined-total : (R : List (List ℕ)) → sumTo (λ i. length (circleAt R i)) (length R) ≡ length (joined R)
-unfolding joined
-joined-total [] = refl
-joined-total (C ∷ R) = let q = sum-front (λ i. length (circleAt (C ∷ R) i)) (length R) in let p = joined-total R in let a = length-append C (joined R) in omega arith
-
-some-long : (l : List ℕ) (y : ℕ) → member l y ≡ true → 0 < length l
-some-long [] y m = absurd (false≢true m)
-some-long (x ∷ l) y m = omega arith
 
 module _ (G : Graph) (C : Closed G) (few : G .size ≤ 65535) where
   abbrev label : ℕ → ℕ
@@ -66,7 +47,7 @@ module _ (G : Graph) (C : Closed G) (few : G .size ≤ 65535) where
       let b : i < length ls = omega arith in
       let w = greedy-at (taken G C few .greedy) i b in
       let l = getD ls i 0 in
-      (l, of-member (subst (λ (c : List ℕ). l ∈ c) (sym (ap (λ (q : List (List ℕ)). circleAt q i) e ∙ map-at (circleOf G (labelsOf G)) ls i b)) (of-circle G C l l (C .bound l (w .0)) (w .1))))
+      (l, of-member (subst (λ (c : List ℕ). l ∈ c) (sym (ap (λ (q : List (List ℕ)). circleAt q i) e ∙ at-map (circleOf G (labelsOf G)) ls i b)) (of-circle G C l l (C .bound l (w .0)) (w .1))))
 
   -- circle i, its first, and its labels
   module _ (i : ℕ) (h : i < length (ranked G)) where
@@ -105,7 +86,7 @@ module _ (G : Graph) (C : Closed G) (few : G .size ≤ 65535) where
   pub listed : declaredCount G ≤ 4092 → Listed G (ranked G)
   listed n = let o = ordered G C few in record {
     count = omega (arith, o .count);
-    total = omega (arith, o .total, o .few, joined-total (ranked G));
+    total = omega (arith, o .total, o .few, joined-sum (ranked G));
     some = λ i h. some-long (circleAt (ranked G) i) (some i h .0) (some i h .1);
     declared = o .declared;
     placed = placed;

@@ -1,8 +1,8 @@
 -- What an answer says leads back to the answer, so no second answer, record or memory fits a call's statement. Assumes nothing.
-use mathlib.Core.Path.{_≡_, refl, ap, sym, _∙_}
+use mathlib.Core.Path.{_≡_, refl, ap}
 use mathlib.Core.List.{List}
 use Prim.Native.Nat.{ℕ}
-use Rattle.refusal.specs.Numbers.{numberOf, verdictOf}
+use Rattle.refusal.specs.Numbers.{numberOf}
 use Rattle.refusal.specs.Only.{Only, After}
 use Rattle.refusal.specs.declared.Verdict.{Verdict}
 use Rattle.refusal.specs.declared.Verdict.the-variants.{Sound, Refused}
@@ -20,15 +20,15 @@ use Rattle.update.specs.declared.Run.{Run}
 use Rattle.update.specs.declared.Run.the-variants.{Paused, Finished, Refused as RunRefused}
 use Rattle.update.specs.declared.Reading.{Reading}
 use Rattle.update.specs.declared.Reading.the-variants.{Set, Refused as ReadRefused}
-use Rattle.update.specs.Memories.{Memory}
+use Rattle.update.specs.Memories.{lent, Memory}
 use Rattle.update.specs.Records.{emptyRecord}
 use Rattle.update.specs.Steps.{Outcome, round, done, Ending, paused, finished}
-use Rattle.update.specs.Calls.{Said, refused, said, answerSays, Ranged, runSays, readingSays, Left, Opened, is-open, loadCall, pointsCall, replaceCall, stepCall, runCall, readCall}
-use Rattle.steps.specs.declared.step.Stepped.{Stepped}
-use Rattle.steps.specs.declared.run.Advanced.{Advanced}
-use Rattle.opens.specs.declared.Begun.{Begun}
-use Rattle.engine.specs.Lent.{lent, openedSays, begun, stepped, advanced, RunLeaves}
-use Rattle.engine.specs.Unique.{AnswersOne, LeavesOne, EveryLeavesOne}
+use Rattle.update.specs.Calls.{Said, refused, said, answerSays, RunOutcome, runSays, readingSays, Left, Opened, loadCall, pointsCall, replaceCall, stepCall, runCall, readCall}
+use Rattle.update_step.specs.declared.step.Stepped.{Stepped}
+use Rattle.update_step.specs.declared.run.Ran.{Ran}
+use Rattle.update_open.specs.declared.Begun.{Begun}
+use Rattle.engine.specs.Lent.{openedSays, begun, stepped, ran, RunLeaves}
+use Rattle.engine.specs.Unique.{AnswersOne, EveryLeavesOne}
 
 -- ---- back from what an answer says
 
@@ -54,7 +54,7 @@ abbrev endBack : ℕ → Ending → Run
 endBack n paused = Paused n
 endBack n (finished circles evaluations changed) = Finished n circles evaluations changed
 
-abbrev runBack : Said Ranged → Run
+abbrev runBack : Said RunOutcome → Run
 runBack (said x) = endBack (x .rounds) (x .ending)
 runBack (refused n) = RunRefused (named n)
 
@@ -82,14 +82,14 @@ begun-back x = ap (λ v. record { answer = record { verdict = v; «record» = x 
 abbrev steppedBack : Left (Said Outcome) → After Stepped (List ℕ)
 steppedBack l = record { answer = record { answer = answerBack (l .answer); «record» = l .next }; found = l .memory .sets }
 
-abbrev ranBack : Left (Said Ranged) → After Advanced (List ℕ)
+abbrev ranBack : Left (Said RunOutcome) → After Ran (List ℕ)
 ranBack l = record { answer = record { answer = runBack (l .answer); «record» = l .next }; found = l .memory .sets }
 
-module _ (held owns before : List ℕ) where
-  stepped-back : (x : After Stepped (List ℕ)) → steppedBack (stepped (x .answer .answer) (x .answer .«record») (lent held owns (x .found) before)) ≡ x
+module _ (held owns earlier : List ℕ) where
+  stepped-back : (x : After Stepped (List ℕ)) → steppedBack (stepped (x .answer .answer) (x .answer .«record») (lent held owns (x .found) earlier)) ≡ x
   stepped-back x = ap (λ a. record { answer = record { answer = a; «record» = x .answer .«record» }; found = x .found }) (answer-back (x .answer .answer))
 
-  ran-back : (x : After Advanced (List ℕ)) → ranBack (advanced (x .answer .answer) (x .answer .«record») (lent held owns (x .found) before)) ≡ x
+  ran-back : (x : After Ran (List ℕ)) → ranBack (ran (x .answer .answer) (x .answer .«record») (lent held owns (x .found) earlier)) ≡ x
   ran-back x = ap (λ a. record { answer = record { answer = a; «record» = x .answer .«record» }; found = x .found }) (run-back (x .answer .answer))
 
 -- ---- no second fits
@@ -105,23 +105,23 @@ answers-one = record {
   empty = only-equal emptyRecord;
 }
 
-run-one : (t held owns sets before : List ℕ) (r : Record) (budget : ℕ)
-    → Only (λ (x : After Advanced (List ℕ)). RunLeaves t held owns sets before r budget (x .answer .answer) (x .answer .«record») (x .found))
-run-one t held owns sets before r budget =
+run-one : (t held owns sets earlier : List ℕ) (r : Record) (budget : ℕ)
+    → Only (λ (x : After Ran (List ℕ)). RunLeaves t held owns sets earlier r budget (x .answer .answer) (x .answer .«record») (x .found))
+run-one t held owns sets earlier r budget =
     record {
       one = λ a b p q.
-          only-said (λ x. advanced (x .answer .answer) (x .answer .«record») (lent held owns (x .found) before)) ranBack (ran-back held owns before)
-          (runCall t (lent held owns sets before) r budget) .one a b (p .left) (q .left);
+          only-said (λ x. ran (x .answer .answer) (x .answer .«record») (lent held owns (x .found) earlier)) ranBack (ran-back held owns earlier)
+          (runCall t (lent held owns sets earlier) r budget) .one a b (p .left) (q .left);
     }
 
 pub every-leaves-one : EveryLeavesOne
-every-leaves-one t held owns sets before r = record {
-  load = λ ns newOwns. only-said (λ x. begun (x .answer) (x .found)) begunBack begun-back (loadCall t (lent held owns sets before) r ns newOwns);
-  replace = λ point ns newOwns. only-said (λ x. begun (x .answer) (x .found)) begunBack begun-back (replaceCall t (lent held owns sets before) r point ns newOwns);
+every-leaves-one t held owns sets earlier r = record {
+  load = λ ns newOwns. only-said (λ x. begun (x .answer) (x .found)) begunBack begun-back (loadCall t (lent held owns sets earlier) r ns newOwns);
+  replace = λ point ns newOwns. only-said (λ x. begun (x .answer) (x .found)) begunBack begun-back (replaceCall t (lent held owns sets earlier) r point ns newOwns);
   replace-points = λ points ns newOwns.
-      only-said (λ x. begun (x .answer) (x .found)) begunBack begun-back (pointsCall t (lent held owns sets before) r (handedRow (namedPoints points) ns newOwns));
-  step = only-said (λ x. stepped (x .answer .answer) (x .answer .«record») (lent held owns (x .found) before)) steppedBack (stepped-back held owns before)
-      (stepCall t (lent held owns sets before) r);
-  run = run-one t held owns sets before r;
-  read = λ x. only-said readingSays readingBack reading-back (readCall t (lent held owns sets before) r x);
+      only-said (λ x. begun (x .answer) (x .found)) begunBack begun-back (pointsCall t (lent held owns sets earlier) r (handedRow (namedPoints points) ns newOwns));
+  step = only-said (λ x. stepped (x .answer .answer) (x .answer .«record») (lent held owns (x .found) earlier)) steppedBack (stepped-back held owns earlier)
+      (stepCall t (lent held owns sets earlier) r);
+  run = run-one t held owns sets earlier r;
+  read = λ x. only-said readingSays readingBack reading-back (readCall t (lent held owns sets earlier) r x);
 }

@@ -1,3 +1,3 @@
 pub mod Lent
-pub mod Prepared
 pub mod Unique
+pub mod Inner

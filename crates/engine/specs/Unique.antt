@@ -12,14 +12,14 @@ use Rattle.table.specs.Judge.{JudgeTableSays}
 use Rattle.tree.specs.declared.Places.{Places}
 use Rattle.tree.specs.Refusals.{JudgeTreeSays}
 use Rattle.update.specs.declared.Record.{Record}
-use Rattle.update.specs.Memories.{Memory}
+use Rattle.update.specs.Memories.{lent, Memory}
 use Rattle.update.specs.Records.{EmptySays}
-use Rattle.steps.specs.declared.step.Stepped.{Stepped}
-use Rattle.steps.specs.declared.run.Advanced.{Advanced}
-use Rattle.opens.specs.declared.Begun.{Begun}
-use Rattle.engine.specs.Lent.{lent, LoadLeaves, PointsLeave, ReplaceLeaves, StepLeaves, RunLeaves, ReadSays}
+use Rattle.update_step.specs.declared.step.Stepped.{Stepped}
+use Rattle.update_step.specs.declared.run.Ran.{Ran}
+use Rattle.update_open.specs.declared.Begun.{Begun}
+use Rattle.engine.specs.Lent.{LoadLeaves, PointsLeave, ReplaceLeaves, StepLeaves, RunLeaves, ReadSays}
 
--- ---- the calls that leave nothing but their answer
+-- ---- 23.9: the calls that leave nothing but their answer
 
 pub record AnswersOne : Type 0 where
   pub number : (r : Refusal) → Only (NumberSays r)
@@ -30,19 +30,20 @@ pub record AnswersOne : Type 0 where
   pub judge-tree : (t ns owns : List ℕ) → Only (JudgeTreeSays t ns owns)
   pub empty : Only EmptySays
 
--- ---- the engine's calls, of any table, memory and record: answer, record and what is found in the buffers that the call may write
+-- ---- 23.9: the engine's calls, of any table, memory and record: answer, record and what is found in the buffers that the call may write
 
--- `load`, `replace` and `replace_points` may write all four (`Begun` is the answer with the record); `step` and `run` the sets (`Stepped` and `Advanced` likewise; a run over a
--- lent record and one by value promise the same); `read` none
-pub record LeavesOne (t held owns sets before : List ℕ) (r : Record) : Type 0 where
-  pub load : (ns newOwns : List ℕ) → Only (λ (x : After Begun Memory). LoadLeaves t (lent held owns sets before) r ns newOwns (x .answer) (x .found))
+-- 23.9: `load`, `replace` and `replace_points` may write all four (`Begun` is the answer with the record); `step` and `run` the sets (`Stepped` and
+-- `Ran` likewise; a run over a lent record and one by value promise the same); `read` none
+pub record LeavesOne (t held owns sets earlier : List ℕ) (r : Record) : Type 0 where
+  pub load : (ns newOwns : List ℕ) → Only (λ (x : After Begun Memory). LoadLeaves t (lent held owns sets earlier) r ns newOwns (x .answer) (x .found))
   pub replace : (point : ℕ) (ns newOwns : List ℕ)
-      → Only (λ (x : After Begun Memory). ReplaceLeaves t (lent held owns sets before) r point ns newOwns (x .answer) (x .found))
+      → Only (λ (x : After Begun Memory). ReplaceLeaves t (lent held owns sets earlier) r point ns newOwns (x .answer) (x .found))
   pub replace-points : (points : Places) (ns newOwns : List ℕ)
-      → Only (λ (x : After Begun Memory). PointsLeave t (lent held owns sets before) r points ns newOwns (x .answer) (x .found))
-  pub step : Only (λ (x : After Stepped (List ℕ)). StepLeaves t held owns sets before r (x .answer .answer) (x .answer .«record») (x .found))
-  pub run : (budget : ℕ) → Only (λ (x : After Advanced (List ℕ)). RunLeaves t held owns sets before r budget (x .answer .answer) (x .answer .«record») (x .found))
-  pub read : (x : ℕ) → Only (ReadSays t (lent held owns sets before) r x)
+      → Only (λ (x : After Begun Memory). PointsLeave t (lent held owns sets earlier) r points ns newOwns (x .answer) (x .found))
+  pub step : Only (λ (x : After Stepped (List ℕ)). StepLeaves t held owns sets earlier r (x .answer .answer) (x .answer .«record») (x .found))
+  pub run : (budget : ℕ) → Only (λ (x : After Ran (List ℕ)). RunLeaves t held owns sets earlier r budget (x .answer .answer) (x .answer .«record») (x .found))
+  pub read : (x : ℕ) → Only (ReadSays t (lent held owns sets earlier) r x)
 
+-- 23.9: whatever is lent
 abbrev pub EveryLeavesOne : Type 0
-EveryLeavesOne = (t held owns sets before : List ℕ) (r : Record) → LeavesOne t held owns sets before r
+EveryLeavesOne = (t held owns sets earlier : List ℕ) (r : Record) → LeavesOne t held owns sets earlier r

@@ -1,16 +1,17 @@
 // Step and run: the rounds of an open update.
-use judging::judge_step;
 use refusal::Verdict;
-use steps::Advanced;
-use steps::Stepped;
-use steps::run_in;
-use steps::step_in;
 use update::Answer;
 use update::Record;
 use update::Run;
-use waiving::prepare;
-ghost use Rattle.engine.specs.Lent.{lent, StepLeaves, RunLeaves};
-ghost use Rattle.judging.specs.Order.{Going};
+use update_judge::judge_step;
+use update_step::Ran;
+use update_step::Stepped;
+use update_step::run_in;
+use update_step::step_in;
+use wire_plan::prepare;
+ghost use Rattle.engine.specs.Lent.{StepLeaves, RunLeaves};
+ghost use Rattle.update_judge.specs.Order.{Going};
+ghost use Rattle.update.specs.Memories.{lent};
 
 // A step where nothing refuses it.
 fn step_going<'a>(
@@ -19,10 +20,10 @@ fn step_going<'a>(
     held: &'a [u8],
     held_owns: &'a [u64],
     sets: &mut [u64],
-    before: &'a [u64],
+    earlier: &'a [u64],
 ) -> Stepped
-    requires { ⌜ Going (now table) (lent (now held) (now «held_owns») (now sets) (now before)) «record» ⌝ }
-    ensures { λ r. ⌜ StepLeaves (now (table .entry)) (now (held .entry)) (now («held_owns» .entry)) (now (sets .entry)) (now (before .entry)) «record» (r .answer) (r .record) (now (sets .exit)) ⌝ }
+    requires { ⌜ Going (now table) (lent (now held) (now «held_owns») (now sets) (now earlier)) «record» ⌝ }
+    ensures { λ r. ⌜ StepLeaves (now (table .entry)) (now (held .entry)) (now («held_owns» .entry)) (now (sets .entry)) (now (earlier .entry)) «record» (r .answer) (r .record) (now (sets .exit)) ⌝ }
 {
     let nodes = record.nodes;
     let mut a = [0u16; 4096];
@@ -58,26 +59,26 @@ fn step_going<'a>(
         &ends,
         count,
         8 * nodes,
-        before,
+        earlier,
         record,
         sets,
         &mut values,
     )
 }
 
-// "One step takes the first due circle in rank not yet closed and makes one round."
+// One step: a round of the first due circle, or done where none is due.
 pub fn step<'a>(
     table: &'a [u64; 2657],
     record: Record,
     held: &'a [u8],
     held_owns: &'a [u64],
     sets: &mut [u64],
-    before: &'a [u64],
+    earlier: &'a [u64],
 ) -> Stepped
-    ensures { λ r. ⌜ StepLeaves (now (table .entry)) (now (held .entry)) (now («held_owns» .entry)) (now (sets .entry)) (now (before .entry)) «record» (r .answer) (r .record) (now (sets .exit)) ⌝ }
+    ensures { λ r. ⌜ StepLeaves (now (table .entry)) (now (held .entry)) (now («held_owns» .entry)) (now (sets .entry)) (now (earlier .entry)) «record» (r .answer) (r .record) (now (sets .exit)) ⌝ }
 {
-    match judge_step(table, record, held, held_owns, &*sets, before) {
-        Verdict::Sound => step_going(table, record, held, held_owns, sets, before),
+    match judge_step(table, record, held, held_owns, &*sets, earlier) {
+        Verdict::Sound => step_going(table, record, held, held_owns, sets, earlier),
         Verdict::Refused(r) => Stepped {
             answer: Answer::Refused(r),
             record: record,
@@ -92,11 +93,11 @@ fn run_going<'a>(
     held: &'a [u8],
     held_owns: &'a [u64],
     sets: &mut [u64],
-    before: &'a [u64],
+    earlier: &'a [u64],
     budget: u64,
-) -> Advanced
-    requires { ⌜ Going (now table) (lent (now held) (now «held_owns») (now sets) (now before)) «record» ⌝ }
-    ensures { λ r. ⌜ RunLeaves (now (table .entry)) (now (held .entry)) (now («held_owns» .entry)) (now (sets .entry)) (now (before .entry)) «record» budget (r .answer) (r .record) (now (sets .exit)) ⌝ }
+) -> Ran
+    requires { ⌜ Going (now table) (lent (now held) (now «held_owns») (now sets) (now earlier)) «record» ⌝ }
+    ensures { λ r. ⌜ RunLeaves (now (table .entry)) (now (held .entry)) (now («held_owns» .entry)) (now (sets .entry)) (now (earlier .entry)) «record» budget (r .answer) (r .record) (now (sets .exit)) ⌝ }
 {
     let nodes = record.nodes;
     let mut a = [0u16; 4096];
@@ -132,7 +133,7 @@ fn run_going<'a>(
         &ends,
         count,
         8 * nodes,
-        before,
+        earlier,
         budget,
         record,
         sets,
@@ -140,41 +141,41 @@ fn run_going<'a>(
     )
 }
 
-// "A run is steps until done or until the caller's budget of rounds is used up": by value of the record.
+// A run: steps until one is done, or until as many rounds are made as the budget has. The record goes by value.
 pub fn run_record<'a>(
     table: &'a [u64; 2657],
     record: Record,
     held: &'a [u8],
     held_owns: &'a [u64],
     sets: &mut [u64],
-    before: &'a [u64],
+    earlier: &'a [u64],
     budget: u64,
-) -> Advanced
-    ensures { λ r. ⌜ RunLeaves (now (table .entry)) (now (held .entry)) (now («held_owns» .entry)) (now (sets .entry)) (now (before .entry)) «record» budget (r .answer) (r .record) (now (sets .exit)) ⌝ }
+) -> Ran
+    ensures { λ r. ⌜ RunLeaves (now (table .entry)) (now (held .entry)) (now («held_owns» .entry)) (now (sets .entry)) (now (earlier .entry)) «record» budget (r .answer) (r .record) (now (sets .exit)) ⌝ }
 {
-    match judge_step(table, record, held, held_owns, &*sets, before) {
-        Verdict::Sound => run_going(table, record, held, held_owns, sets, before, budget),
-        Verdict::Refused(r) => Advanced {
+    match judge_step(table, record, held, held_owns, &*sets, earlier) {
+        Verdict::Sound => run_going(table, record, held, held_owns, sets, earlier, budget),
+        Verdict::Refused(r) => Ran {
             answer: Run::Refused(r),
             record: record,
         },
     }
 }
 
-// "The update record is lent by the caller, who finds it altered after the run."
+// The same run over a record that the caller lends, which is changed in place.
 pub fn run<'a>(
     record: &mut Record,
     table: &'a [u64; 2657],
     held: &'a [u8],
     held_owns: &'a [u64],
     sets: &mut [u64],
-    before: &'a [u64],
+    earlier: &'a [u64],
     budget: u64,
 ) -> Run
-    ensures { λ a. ⌜ RunLeaves (now (table .entry)) (now (held .entry)) (now («held_owns» .entry)) (now (sets .entry)) (now (before .entry)) (now («record» .entry)) budget a (now («record» .exit)) (now (sets .exit)) ⌝ }
+    ensures { λ a. ⌜ RunLeaves (now (table .entry)) (now (held .entry)) (now («held_owns» .entry)) (now (sets .entry)) (now (earlier .entry)) (now («record» .entry)) budget a (now («record» .exit)) (now (sets .exit)) ⌝ }
 {
     let r = *record;
-    let d = run_record(table, r, held, held_owns, sets, before, budget);
+    let d = run_record(table, r, held, held_owns, sets, earlier, budget);
     *record = d.record;
     d.answer
 }

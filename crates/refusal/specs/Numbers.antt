@@ -1,4 +1,4 @@
--- The number of each refusal, as the table "Refusal numbers" of document 01 gives it, and the requests the last: 2026-06 one, 2026-07 two. Assumes nothing.
+-- Chapter 14: the number of each refusal. Assumes nothing.
 use mathlib.Core.Path.{_≡_}
 use Prim.Native.Nat.{ℕ}
 use Rattle.refusal.specs.declared.Refusal.{Refusal}

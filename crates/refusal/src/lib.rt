@@ -1,44 +1,44 @@
-// The refusals of document 01 and of the requests, one name a number, and what a checker answers.
+// The refusals of chapter 14 (docs/RULES.md), one name a number, and what a checker answers.
 ghost use Rattle.refusal.specs.Numbers.{NumberSays};
 
 pub enum Refusal {
-    // 1: a table count is outside its limit
+    // 1: a count of the table is out of bounds
     Count,
-    // 2: a symbol number isn't below the symbol count
+    // 2: a production has a symbol that there is not
     Symbol,
-    // 3: symbol 0 has an inherited set
+    // 3: symbol 0 inherits something
     Start,
-    // 4: op above 9, an unused field not zero, or op 7 with c above 56
+    // 4: an operation that there is not, a field in vain, or a c that operation 7 can't have
     Form,
-    // 5: an argument names no declared occurrence
+    // 5: an argument that is nowhere declared
     Argument,
-    // 6: a node's production number isn't below the count
+    // 6: a node of a production that there is not
     Production,
-    // 7: no nodes, nodes missing or left over, or a wrong symbol
+    // 7: the nodes don't make up one subtree, or not of the right symbol
     Shape,
-    // 8: the tree would pass 512 nodes
+    // 8: more than 512 nodes
     Size,
-    // 9: r isn't below the node count
+    // 9: a point that is no node
     Point,
-    // 10: load, replacement or reading while an update is open
+    // 10: an update is open
     Busy,
-    // 11: a record field is beyond its limit, or an open record's point or new part lies outside the tree
+    // 11: the record has a number above its limit, or an open update's points are astray
     Fields,
-    // 12: the instance read isn't declared
+    // 12: no such instance
     Undeclared,
-    // 13: a line isn't 2 to 28 lowercase hex digits, even in number, ended by LF
+    // 13: what should be a line is none
     Line,
-    // 14: a frame has unknown type, wrong length or wrong place, or text ends inside a table or command
+    // 14: a line is no frame, or not the one that is due, or the text is over too soon
     Frame,
-    // 15: a lent buffer is too short
+    // 15: a buffer hasn't the length that it needs
     Buffer,
-    // 16: replacement, step, reading or dump with no tree
+    // 16: no tree is held
     Absent,
-    // 17: step or run with no update open
+    // 17: no update is open
     Idle,
     // 21: a waiver inside a circle
     Waiver,
-    // 22: several corrections at no point, or at more than 8
+    // 22: no point, or more than eight
     Points,
     // 23: points out of order, or one inside another's old part
     Overlap,

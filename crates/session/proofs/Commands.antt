@@ -28,18 +28,20 @@ use Rattle.update.proofs.Refusing.{all-leave}
 use Rattle.demands.specs.Engine.{ours}
 use Rattle.demands.specs.History.{History}
 use Rattle.demands.proofs.Ours.{ours-2}
-use Rattle.frames.specs.Frames.{frameAt}
-use Rattle.frames.specs.Out.{dumpText, refusalText}
-use Rattle.frames.specs.declared.Frame.{Frame}
-use Rattle.frames.specs.declared.Frame.the-variants.{Header, Symbol, Production, Equation, Node, Load, Replace, Dump, Corrections, Correction, Refused, Over}
-use Rattle.texts.specs.Read.{typeOf}
-use Rattle.texts.specs.Reading as table
-use Rattle.texts.specs.Reading.{Reading, readingAt}
-use Rattle.texts.specs.Refused.{TableRead}
-use Rattle.texts.proofs.Refusing.{table-exactly}
-use Rattle.texts.proofs.Passing.{frame-on, none-left}
-use Rattle.planting.specs.Planting.{Nodes, good, bad, nodesAt}
-use Rattle.planting.proofs.Trees.{nodes-forth}
+use Rattle.text_frame.specs.Frames.{frameAt}
+use Rattle.text_frame.specs.Out.{dumpText, refusalText}
+use Rattle.text_frame.specs.declared.Frame.{Frame}
+use Rattle.text_frame.specs.declared.Frame.the-variants.{Rule, Node, Point as PointFrame, Change, Dump, Refused, Over}
+use Rattle.text_frame.specs.declared.Change as change
+use Rattle.text_frame.specs.declared.Change.the-variants.{Load, Replace, Corrections}
+use Rattle.text_frame.specs.Text.{typeOf}
+use Rattle.text_table.specs.Reading as table
+use Rattle.text_table.specs.Reading.{Reading, readingAt}
+use Rattle.text_table.specs.Refused.{TableRead}
+use Rattle.text_table.proofs.Refusing.{table-exactly}
+use Rattle.text_table.proofs.Passing.{frame-on, none-left}
+use Rattle.text_tree.specs.Planting.{Nodes, good, bad, nodesAt}
+use Rattle.text_tree.proofs.Trees.{nodes-forth}
 use Rattle.session.specs.Session.{Told, toDone, openedThen, dumpOr, dumpTold, andOn, withNodes, command, commandsFrom, ownMemory, afterTable, session}
 use Rattle.session.specs.Naming.{Named, named, unnamed, pointsAt}
 use Rattle.session.specs.Lines.{SetsText}
@@ -93,7 +95,7 @@ never-absent (absent c) = omega arith
 
 -- ---- the nodes of a load or a replacement stand behind its frame, and their own sets are words
 
-pub nodes-behind : {s ns owns : List ℕ} {place line place′ line′ : ℕ} {kind : ℕ → Frame} → CommandAt s place line kind (good ns owns place′ line′)
+pub nodes-behind : {s ns owns : List ℕ} {place line place′ line′ : ℕ} {kind : ℕ → change.Change} → CommandAt s place line kind (good ns owns place′ line′)
     → 0 < typeOf (frameAt s place line .frame) → (Words owns) × (place < place′)
 nodes-behind {s} {ns} {owns} {place} {line} {place′} {line′} c y =
     let w = nodes-forth (c .count) s (frameAt s place line .place) (frameAt s place line .line) ns owns place′ line′ (c .found) in
@@ -177,24 +179,24 @@ module _ (s t : List ℕ) (q : TableKept t) where
     abbrev By : Frame → Type 0
     By f = Commands s t place line h r m (command s t f line (frameAt s place line .place) (frameAt s place line .line) r m go)
 
-    load-lines : (count : ℕ) → frameAt s place line .frame ≡ Load count → (x : Nodes) → nodesAt count s (frameAt s place line .place) (frameAt s place line .line) ≡ x
+    load-lines : (count : ℕ) → frameAt s place line .frame ≡ Change (Load count) → (x : Nodes) → nodesAt count s (frameAt s place line .place) (frameAt s place line .line) ≡ x
         → Commands s t place line h r m (withNodes x (λ ps os. openedThen line t (loadCall t m r ps os)) go)
     load-lines count e (good ns owns place′ line′) f = load-runs ns owns place′ line′ (record { count = count; frame = e; found = f })
     load-lines count e (bad refusal at) f = stops (bad-load (record { count = count; frame = e; found = f }))
 
-    replace-lines : (point count : ℕ) → frameAt s place line .frame ≡ Replace point count → (x : Nodes)
-        → nodesAt count s (frameAt s place line .place) (frameAt s place line .line) ≡ x → By (Replace point count)
+    replace-lines : (point count : ℕ) → frameAt s place line .frame ≡ Change (Replace point count) → (x : Nodes)
+        → nodesAt count s (frameAt s place line .place) (frameAt s place line .line) ≡ x → By (Change (Replace point count))
     replace-lines point count e (good ns owns place′ line′) f = subst By e (row-runs _ place′ line′ (one point (record { count = count; frame = e; found = f })))
     replace-lines point count e (bad refusal at) f = subst By e (row-bad refusal at (one point (record { count = count; frame = e; found = f })))
 
-    part-lines : (count : ℕ) → frameAt s place line .frame ≡ Corrections count → (qs : List Point) (place₁ line₁ : ℕ)
+    part-lines : (count : ℕ) → frameAt s place line .frame ≡ Change (Corrections count) → (qs : List Point) (place₁ line₁ : ℕ)
         → pointsAt count s (frameAt s place line .place) (frameAt s place line .line) ≡ named qs place₁ line₁
-        → (x : Nodes) → nodesAt (announced qs) s place₁ line₁ ≡ x → By (Corrections count)
+        → (x : Nodes) → nodesAt (announced qs) s place₁ line₁ ≡ x → By (Change (Corrections count))
     part-lines count e qs place₁ line₁ f (good ns owns place′ line′) g = subst By e (row-runs _ place′ line′ (several e f g))
     part-lines count e qs place₁ line₁ f (bad refusal at) g = subst By e (row-bad refusal at (at-node e f g))
 
-    point-lines : (count : ℕ) → frameAt s place line .frame ≡ Corrections count → (x : Named)
-        → pointsAt count s (frameAt s place line .place) (frameAt s place line .line) ≡ x → By (Corrections count)
+    point-lines : (count : ℕ) → frameAt s place line .frame ≡ Change (Corrections count) → (x : Named)
+        → pointsAt count s (frameAt s place line .place) (frameAt s place line .line) ≡ x → By (Change (Corrections count))
     point-lines count e (named qs place₁ line₁) f = part-lines count e qs place₁ line₁ f (nodesAt (announced qs) s place₁ line₁) refl
     point-lines count e (unnamed refusal at) f = subst By e (row-bad refusal at (at-point e f))
 
@@ -215,15 +217,12 @@ module _ (s t : List ℕ) (q : TableKept t) where
     -- by the frame of the line
     by-frame : (f : Frame) → frameAt s place line .frame ≡ f → By f
     unfolding dumpTold
-    by-frame (Header a c) e = stray (rw e)
-    by-frame (Symbol a c) e = stray (rw e)
-    by-frame (Production a c d) e = stray (rw e)
-    by-frame (Equation a c d k) e = stray (rw e)
+    by-frame (Rule a) e = stray (rw e)
     by-frame (Node a c) e = stray (rw e)
-    by-frame (Load count) e = load-lines count e (nodesAt count s (frameAt s place line .place) (frameAt s place line .line)) refl
-    by-frame (Replace point count) e = replace-lines point count e (nodesAt count s (frameAt s place line .place) (frameAt s place line .line)) refl
-    by-frame (Corrections count) e = point-lines count e (pointsAt count s (frameAt s place line .place) (frameAt s place line .line)) refl
-    by-frame (Correction a c) e = stray (rw e)
+    by-frame (PointFrame a c) e = stray (rw e)
+    by-frame (Change (Load count)) e = load-lines count e (nodesAt count s (frameAt s place line .place) (frameAt s place line .line)) refl
+    by-frame (Change (Replace point count)) e = replace-lines point count e (nodesAt count s (frameAt s place line .place) (frameAt s place line .line)) refl
+    by-frame (Change (Corrections count)) e = point-lines count e (pointsAt count s (frameAt s place line .place) (frameAt s place line .line)) refl
     by-frame Dump e = on (dumpTold line t r m) h (frameAt s place line .place) (frameAt s place line .line) (dump-runs e) b (frame-on s place line (rw e (omega arith)))
     by-frame (Refused refusal at) e = stops (bad-line e)
     by-frame Over e = stops (over e)

@@ -6,3 +6,4 @@ pub mod Rows
 pub mod Commands
 pub mod Texts
 pub mod Only
+pub mod Performing

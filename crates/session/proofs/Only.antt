@@ -13,22 +13,23 @@ use Rattle.wire.specs.Instances.{system}
 use Rattle.update.specs.declared.Record.{Record}
 use Rattle.update.specs.Records.{emptyRecord}
 use Rattle.update.specs.Memories.{Memory}
-use Rattle.update.specs.Refused.{Leaves, Miscounted, Counted, Missing, Present}
-use Rattle.update.specs.Calls.{Said, Left, leaving, Opened, is-open, loadCall, pointsCall}
+use Rattle.update.specs.Refusals.{Miscounted, Counted, Missing, Present}
+use Rattle.update.specs.Refused.{Leaves}
+use Rattle.update.specs.Calls.{Said, Left, leaving, Opened, is-open, loadCall}
 use Rattle.update.proofs.Refusing.{all-leave}
 use Rattle.demands.specs.Asked.{newRule, surviving, valueBefore}
 use Rattle.demands.proofs.Updating.{one-least}
 use Rattle.demands.proofs.Circles.{one-by-rank}
-use Rattle.frames.specs.Frames.{frameAt}
-use Rattle.frames.specs.Out.{refusalText}
-use Rattle.frames.specs.declared.Frame.{Frame}
-use Rattle.frames.specs.declared.Frame.the-variants.{Header, Symbol, Production, Equation, Node, Load, Replace, Dump, Corrections, Correction, Refused, Over}
-use Rattle.texts.specs.Reading as table
-use Rattle.texts.specs.Reading.{Reading, readingAt}
-use Rattle.texts.specs.Refused.{TableRead}
-use Rattle.texts.proofs.Refusing.{table-exactly}
-use Rattle.texts.proofs.Passing.{frame-on, none-left}
-use Rattle.planting.specs.Planting.{good}
+use Rattle.text_frame.specs.Frames.{frameAt}
+use Rattle.text_frame.specs.Out.{refusalText}
+use Rattle.text_frame.specs.declared.Frame.{Frame}
+use Rattle.text_frame.specs.declared.Frame.the-variants.{Rule, Node, Point as PointFrame, Change, Dump, Refused, Over}
+use Rattle.text_frame.specs.declared.Change.the-variants.{Load}
+use Rattle.text_table.specs.Reading.{Reading, readingAt}
+use Rattle.text_table.specs.Refused.{TableRead}
+use Rattle.text_table.proofs.Refusing.{table-exactly}
+use Rattle.text_table.proofs.Passing.{frame-on, none-left}
+use Rattle.text_tree.specs.Planting.{good}
 use Rattle.session.specs.Session.{Told, openedThen, toDone, dumpTold, andOn, command, commandsFrom, ownMemory, afterTable, session}
 use Rattle.session.specs.Lines.{LoadText, ReplacementText, UpdateText, SetsText}
 use Rattle.session.specs.Commands.{TreeHeld, no-tree, tree, Between, at-first, behind-history, TreeNumber, misshapen, waived, sound, LoadNumber, ReplaceNumber, miscounted, too-many, judged, absent, outside, meeting, CommandAt, Command, load-refused, loads, replacement-refused, replaces, dump-refused, dumps, outOfPlace, Stops, over, bad-line, misplaced, bad-load, bad-replacement, Commands, stops, goes-on, no-table, runs, OnlySession}
@@ -112,16 +113,11 @@ told-opened t line {r = r} {m} {left} l e =
 
 misplaced-prints : (s t : List ℕ) (f : Frame) (line place next : ℕ) (r : Record) (m : Memory) (go : ℕ → ℕ → Record → Memory → List ℕ) → outOfPlace f ≡ true
     → refusalText 14 line ≡ command s t f line place next r m go
-misplaced-prints s t (Header a b) line place next r m go e = refl
-misplaced-prints s t (Symbol a b) line place next r m go e = refl
-misplaced-prints s t (Production a b c) line place next r m go e = refl
-misplaced-prints s t (Equation a b c d) line place next r m go e = refl
+misplaced-prints s t (Rule a) line place next r m go e = refl
 misplaced-prints s t (Node a b) line place next r m go e = refl
-misplaced-prints s t (Load a) line place next r m go e = absurd (true≢false (sym e))
-misplaced-prints s t (Replace a b) line place next r m go e = absurd (true≢false (sym e))
+misplaced-prints s t (PointFrame a b) line place next r m go e = refl
+misplaced-prints s t (Change a) line place next r m go e = absurd (true≢false (sym e))
 misplaced-prints s t Dump line place next r m go e = absurd (true≢false (sym e))
-misplaced-prints s t (Corrections a) line place next r m go e = absurd (true≢false (sym e))
-misplaced-prints s t (Correction a b) line place next r m go e = refl
 misplaced-prints s t (Refused a b) line place next r m go e = absurd (true≢false (sym e))
 misplaced-prints s t Over line place next r m go e = absurd (true≢false (sym e))
 

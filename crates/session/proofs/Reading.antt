@@ -8,21 +8,22 @@ use lib.ListN.{set, replicate}
 use Rattle.table.specs.Judge.{judgeTable}
 use Rattle.wire.specs.Laws.{Words}
 use Rattle.update.proofs.Filled.{getD-zeros}
-use Rattle.frames.specs.Frames.{lineAfter}
-use Rattle.frames.specs.Exactly.{IsFrame, frame}
-use Rattle.frames.specs.declared.Step.{Step}
-use Rattle.frames.specs.declared.Frame.{Frame}
-use Rattle.frames.specs.declared.Frame.the-variants.{Header, Symbol, Production, Equation, Node, Load, Replace, Dump, Corrections, Correction, Refused, Over}
-use Rattle.frames.specs.declared.Expected.{Expected}
-use Rattle.frames.specs.declared.Expected.the-variants.{AtHeader, AtSymbol, AtProduction, AtEquation, Ended}
-use Rattle.frames.proofs.Bounds.{Bounded, bounded}
-use Rattle.frames.proofs.Exactly.{frame-exactly}
-use Rattle.texts.specs.Read.{wordOf, constantOf, store}
-use Rattle.texts.specs.Reading as table
-use Rattle.texts.specs.Refused.{ReadTo, begin, next, TableRead, all}
-use Rattle.texts.proofs.Refusing.{table-exactly}
-use Rattle.texts.proofs.Tables.{table-forth}
-use Rattle.planting.specs.Laws.{AllFit}
+use Rattle.text_frame.specs.Frames.{lineAfter}
+use Rattle.text_frame.specs.Exactly.{IsFrame, frame}
+use Rattle.text_frame.specs.declared.Step.{Step}
+use Rattle.text_frame.specs.declared.Frame.{Frame}
+use Rattle.text_frame.specs.declared.Frame.the-variants.{Rule, Node, Point, Change, Dump, Refused, Over}
+use Rattle.text_frame.specs.declared.Rule.the-variants.{Header, Symbol, Production, Equation}
+use Rattle.text_frame.specs.declared.Expected.{Expected}
+use Rattle.text_frame.specs.declared.Expected.the-variants.{AtHeader, AtSymbol, AtProduction, AtEquation, Ended}
+use Rattle.text_frame.proofs.Bounds.{Bounded, bounded}
+use Rattle.text_frame.proofs.Exactly.{frame-exactly}
+use Rattle.text_table.specs.Read.{wordOf, constantOf, store}
+use Rattle.text_table.specs.Reading as table
+use Rattle.text_table.specs.Refused.{ReadTo, begin, next, TableRead, all}
+use Rattle.text_table.proofs.Refusing.{table-exactly}
+use Rattle.text_table.proofs.Tables.{table-forth}
+use Rattle.text_tree.specs.Laws.{AllFit}
 
 -- ---- words of 64 bits
 
@@ -35,31 +36,27 @@ words-set (x ∷ l) (suc i) v w small (suc j) = words-set l i v (λ k. w (suc k)
 
 word-small : (f : Frame) → Bounded f → wordOf f < 2 ^ 64
 unfolding wordOf
-word-small (Header a b) h = omega (arith, h .0, h .1)
-word-small (Symbol a b) h = omega (arith, h .0, h .1)
-word-small (Production l n cs) h = let k = h .1 .1 in omega (arith, h .0, h .1 .0, k .one, k .two, k .three, k .four)
-word-small (Equation op a b c) h = omega (arith, h .0, h .1 .0 .0, h .1 .0 .1, h .1 .1 .0 .0, h .1 .1 .0 .1)
+word-small (Rule (Header a b)) h = omega (arith, h .0, h .1)
+word-small (Rule (Symbol a b)) h = omega (arith, h .0, h .1)
+word-small (Rule (Production l n cs)) h = let k = h .1 .1 in omega (arith, h .0, h .1 .0, k .one, k .two, k .three, k .four)
+word-small (Rule (Equation op a b c)) h = omega (arith, h .0, h .1 .0 .0, h .1 .0 .1, h .1 .1 .0 .0, h .1 .1 .0 .1)
 word-small (Node a b) h = lit< tt
-word-small (Load a) h = lit< tt
-word-small (Replace a b) h = lit< tt
+word-small (Point a b) h = lit< tt
+word-small (Change a) h = lit< tt
 word-small Dump h = lit< tt
-word-small (Corrections a) h = lit< tt
-word-small (Correction a b) h = lit< tt
 word-small (Refused a b) h = lit< tt
 word-small Over h = lit< tt
 
 constant-small : (f : Frame) → Bounded f → constantOf f < 2 ^ 64
 unfolding constantOf
-constant-small (Header a b) h = lit< tt
-constant-small (Symbol a b) h = lit< tt
-constant-small (Production l n cs) h = lit< tt
-constant-small (Equation op a b c) h = h .1 .1 .1
+constant-small (Rule (Header a b)) h = lit< tt
+constant-small (Rule (Symbol a b)) h = lit< tt
+constant-small (Rule (Production l n cs)) h = lit< tt
+constant-small (Rule (Equation op a b c)) h = h .1 .1 .1
 constant-small (Node a b) h = lit< tt
-constant-small (Load a) h = lit< tt
-constant-small (Replace a b) h = lit< tt
+constant-small (Point a b) h = lit< tt
+constant-small (Change a) h = lit< tt
 constant-small Dump h = lit< tt
-constant-small (Corrections a) h = lit< tt
-constant-small (Correction a b) h = lit< tt
 constant-small (Refused a b) h = lit< tt
 constant-small Over h = lit< tt
 

@@ -6,10 +6,8 @@ use mathlib.Core.List.{List, [], _∷_}
 use Prim.Native.Nat.{ℕ, zero, suc, _+_, _-_, _≤_, _<_}
 use native.Mathlib.Omega.{arith}
 use borrow.Author.Tests.{lt-ltb, le-ltb}
-use lib.Dec.{ltb}
 use lib.ListN.{length, length-replicate}
-use Rattle.lines.proofs.Values.{lt-or-ge}
-use Rattle.table.specs.First.{first}
+use Rattle.text_line.proofs.Values.{lt-or-ge}
 use Rattle.table.specs.Judge.{judgeTable}
 use Rattle.tree.specs.Tree.{judgeNodes, judgeTree}
 use Rattle.tree.specs.Points.{Part, nodesRow, leavingRow, comingRow, overlaps}
@@ -21,8 +19,8 @@ use Rattle.update.specs.declared.Record.{Record}
 use Rattle.update.specs.Records.{isOpen, beyond, shut, emptyRecord}
 use Rattle.update.specs.Memories.{Memory, nodesOf}
 use Rattle.update.specs.Refusals as tests
-use Rattle.update.specs.Refusals.{firstRefusal, when, short, heldRefusal, loadRefusal, missing, nodesLeft, partsRefusal, pointsRefusal, lookRefusals}
-use Rattle.update.specs.Refused.{Counted}
+use Rattle.refusal.specs.Orders.{above, judged as judgement, refusalBy}
+use Rattle.update.specs.Refusals.{short, heldRefusal, loadRefusal, missing, nodesLeft, partsRefusal, pointsRefusal, waiverOrder, lookOrder, Counted}
 use Rattle.update.proofs.Within.{short-means, all-shut}
 use Rattle.update.proofs.Ready.{tree-sound}
 use Rattle.update.proofs.Asking.{miscounted-means, counted-means, missing-means, present-means, overlap-means, apart-means, tests-row}
@@ -51,7 +49,7 @@ own-long = short-means ownMemory .1 (record {
   productions = omega (arith, length-replicate {A = ℕ} 512 0);
   owns = omega (arith, length-replicate {A = ℕ} 512 0);
   sets = omega (arith, length-replicate {A = ℕ} 4096 0);
-  before = omega (arith, length-replicate {A = ℕ} 4096 0);
+  earlier = omega (arith, length-replicate {A = ℕ} 4096 0);
 })
 
 pub rests : {t : List ℕ} {h : TreeHeld} {r : Record} {m : Memory} → Between t h r m → Idle r m
@@ -87,8 +85,8 @@ none-held = refl
 
 -- of a tree that is sound if what was handed over is
 tree-number : (t ns : List ℕ) → judgeTable t ≡ 0 → (handed : ℕ) → (handed ≡ 0 → judgeNodes t ns (0 ∷ []) ≡ 0)
-    → TreeNumber t ns handed (firstRefusal (handed ∷ when (waives t ns) 21 ∷ []))
-unfolding first
+    → TreeNumber t ns handed (refusalBy (judgement 6 7 handed ∷ waiverOrder t ns))
+unfolding refusalBy
 tree-number t ns table zero f = ⊎-elim
     (λ (h : waives t ns ≡ true). rw h (waived refl (every-tree-waives t ns table (f refl) .some .0 h)))
     (λ (h : waives t ns ≡ false). rw h (sound refl (every-tree-waives t ns table (f refl) .none .0 h)))
@@ -97,24 +95,24 @@ tree-number t ns table (suc n) f = misshapen (omega arith)
 
 module _ (t : List ℕ) {r : Record} {m : Memory} (i : Idle r m) (table : judgeTable t ≡ 0) where
   pub load-number : (ns owns : List ℕ) → LoadNumber t ns owns (loadRefusal t m r ns owns)
-  unfolding loadRefusal first
+  unfolding loadRefusal refusalBy
   load-number ns owns = rw (i .long, table, i .within, i .idle) (⊎-elim
       (λ (h : 512 < length ns). rw (lt-ltb 512 (length ns) h) (too-many h))
       (λ (h : length ns ≤ 512). rw (le-ltb 512 (length ns) h) (judged h (tree-number t ns table (judgeTree t ns owns 0) (tree-sound t ns owns 0))))
       (lt-or-ge 512 (length ns)))
 
   replace-miscounted : {h : TreeHeld} (ps : List Part) → tests.miscounted ps ≡ true → ReplaceNumber t ps h (pointsRefusal t m r ps)
-  unfolding pointsRefusal first
+  unfolding pointsRefusal refusalBy
   replace-miscounted ps c = rw (i .long, table, i .within, i .idle, c) (miscounted (miscounted-means ps .0 c))
 
   replace-absent : r .held ≡ false → (ps : List Part) → tests.miscounted ps ≡ false → ReplaceNumber t ps no-tree (pointsRefusal t m r ps)
-  unfolding pointsRefusal first
+  unfolding pointsRefusal refusalBy
   replace-absent held ps c = rw (i .long, table, i .within, i .idle, c, held) (absent (counted-means ps .0 c))
 
   -- points that are in the tree and lie apart
   replace-placed : {ns owns : List ℕ} → Kept t ns owns r m → (ps : List Part) → Counted ps → missing (length ns) ps ≡ false → overlaps t ns 0 ps ≡ false
-      → ReplaceNumber t ps (tree ns owns) (firstRefusal (when (ltb 512 (length ns - leavingRow t ns ps + comingRow ps)) 8 ∷ partsRefusal t ns ps ∷ when (waives t (nodesRow t ns ps)) 21 ∷ []))
-  unfolding first
+      → ReplaceNumber t ps (tree ns owns) (refusalBy (above 8 512 (length ns - leavingRow t ns ps + comingRow ps) ∷ judgement 6 7 (partsRefusal t ns ps) ∷ waiverOrder t (nodesRow t ns ps)))
+  unfolding refusalBy
   replace-placed {ns} k ps c a o =
       let left : ℕ = length ns - leavingRow t ns ps + comingRow ps in
       let there = present-means (length ns) ps .0 a in
@@ -125,7 +123,7 @@ module _ (t : List ℕ) {r : Record} {m : Memory} (i : Idle r m) (table : judgeT
       (λ e. all-rows t ns 0 0 ps (k .shape) (tests-row t ns 0 ps a o e) .sound)))) (lt-or-ge 512 left)
 
   replace-held : {ns owns : List ℕ} → Kept t ns owns r m → (ps : List Part) → tests.miscounted ps ≡ false → ReplaceNumber t ps (tree ns owns) (pointsRefusal t m r ps)
-  unfolding pointsRefusal nodesLeft first
+  unfolding pointsRefusal nodesLeft refusalBy
   replace-held {ns} k ps c =
       let d = counted-means ps .0 c in
       rw (i .long, table, i .within, i .idle, c, k .held, k .sound, k .count, k .nodes) (⊎-elim
@@ -135,12 +133,12 @@ module _ (t : List ℕ) {r : Record} {m : Memory} (i : Idle r m) (table : judgeT
       (λ (o : overlaps t ns 0 ps ≡ false). rw o (replace-placed k ps d a o)) (either (overlaps t ns 0 ps))))
       (either (missing (length ns) ps)))
 
-  dump-absent : r .held ≡ false → firstRefusal (lookRefusals t m r 0) ≡ 16
-  unfolding first
+  dump-absent : r .held ≡ false → refusalBy (lookOrder t m r) ≡ 16
+  unfolding refusalBy
   dump-absent held = rw (i .long, table, i .within, i .idle, held)
 
-  dump-held : {ns owns : List ℕ} → Kept t ns owns r m → firstRefusal (lookRefusals t m r 0) ≡ 0
-  unfolding first
+  dump-held : {ns owns : List ℕ} → Kept t ns owns r m → refusalBy (lookOrder t m r) ≡ 0
+  unfolding refusalBy
   dump-held k = rw (i .long, table, i .within, i .idle, k .held, k .sound)
 
 pub replace-number : {t : List ℕ} {h : TreeHeld} {r : Record} {m : Memory} → Between t h r m → judgeTable t ≡ 0 → (ps : List Part)
@@ -158,6 +156,6 @@ abbrev pub dumpNumber : TreeHeld → ℕ
 dumpNumber no-tree = 16
 dumpNumber (tree ns owns) = 0
 
-pub dump-number : {t : List ℕ} {h : TreeHeld} {r : Record} {m : Memory} → Between t h r m → judgeTable t ≡ 0 → firstRefusal (lookRefusals t m r 0) ≡ dumpNumber h
+pub dump-number : {t : List ℕ} {h : TreeHeld} {r : Record} {m : Memory} → Between t h r m → judgeTable t ≡ 0 → refusalBy (lookOrder t m r) ≡ dumpNumber h
 dump-number {t} at-first table = dump-absent t (rests {t = t} at-first) table none-held
 dump-number {t} (behind-history h) table = dump-held t (rests (behind-history h)) table (keeps (finished-state h))

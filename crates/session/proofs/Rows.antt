@@ -1,5 +1,5 @@
 -- The parts of a replacement as a session reads them: by `07` as one, or cut by the counts that the points announce. Assumes nothing.
-use mathlib.Core.Path.{_≡_, refl, sym, ap, _∙_, subst}
+use mathlib.Core.Path.{_≡_, sym, ap, _∙_, subst}
 use mathlib.Core.List.{List, [], _∷_, List·Memᴰ·head, List·Memᴰ·tail}
 use Prim.Native.Nat.{ℕ, zero, suc, _+_, _≤_, _<_}
 use native.Mathlib.Omega.{arith}
@@ -18,16 +18,16 @@ use Rattle.update.specs.Calls.{Said, Left, Opened, replaceCall, pointsCall}
 use Rattle.update.specs.Points.{WordsIn}
 use Rattle.update.proofs.Several.{one-point}
 use Rattle.update.proofs.Openings.{words-take, words-drop}
-use Rattle.frames.specs.Frames.{frameAt}
-use Rattle.frames.specs.declared.Frame.{Frame}
-use Rattle.frames.specs.declared.Frame.the-variants.{Header, Symbol, Production, Equation, Node, Load, Replace, Dump, Corrections, Correction, Refused, Over}
-use Rattle.texts.specs.Read.{typeOf}
-use Rattle.texts.proofs.Passing.{frame-on}
-use Rattle.planting.specs.Planting.{good, nodesAt}
-use Rattle.planting.proofs.Trees.{nodes-forth}
-use Rattle.planting.proofs.Planted.{even}
+use Rattle.text_frame.specs.Frames.{frameAt}
+use Rattle.text_frame.specs.declared.Frame.{Frame}
+use Rattle.text_frame.specs.declared.Frame.the-variants.{Rule, Node, Point as PointFrame, Change, Dump, Refused, Over}
+use Rattle.text_frame.specs.Text.{typeOf}
+use Rattle.text_table.proofs.Passing.{frame-on}
+use Rattle.text_tree.specs.Planting.{good, nodesAt}
+use Rattle.text_tree.proofs.Trees.{nodes-forth}
+use Rattle.text_tree.proofs.Planted.{even}
 use Rattle.session.specs.Naming.{Named, named, unnamed, pointBefore, pointThen, pointsAt}
-use Rattle.frames.specs.Out.{refusalText}
+use Rattle.text_frame.specs.Out.{refusalText}
 use Rattle.session.specs.Session.{openedThen, andOn, command, OneAsSeveral}
 use Rattle.session.specs.Commands.{RowAt, one, several, RowStops, at-point, at-node}
 use Rattle.session.proofs.Reading.{words-fit}
@@ -48,17 +48,12 @@ before-found q (named ps place′ line′) qs place line h = (ps, let a : place�
 before-found q (unnamed refusal at) qs place line h = absurd (not-named h)
 
 first-point : (f : Frame) (at : ℕ) (rest : Named) {qs : List Point} {place line : ℕ} → pointThen f at rest ≡ named qs place line → Pointed f rest place line
-first-point (Header a b) at rest h = absurd (not-named h)
-first-point (Symbol a b) at rest h = absurd (not-named h)
-first-point (Production a b c) at rest h = absurd (not-named h)
-first-point (Equation a b c d) at rest h = absurd (not-named h)
+first-point (Rule a) at rest h = absurd (not-named h)
 first-point (Node a b) at rest h = absurd (not-named h)
-first-point (Load a) at rest h = absurd (not-named h)
-first-point (Replace a b) at rest h = absurd (not-named h)
-first-point Dump at rest h = absurd (not-named h)
-first-point (Corrections a) at rest h = absurd (not-named h)
-first-point (Correction a b) at rest {qs} {place} {line} h =
+first-point (PointFrame a b) at rest {qs} {place} {line} h =
     let r = before-found (record { node = a; count = b }) rest qs place line h in record { type = omega arith; others = r .0; found = r .1 }
+first-point (Change a) at rest h = absurd (not-named h)
+first-point Dump at rest h = absurd (not-named h)
 first-point (Refused a b) at rest h = absurd (not-named h)
 first-point Over at rest h = absurd (not-named h)
 

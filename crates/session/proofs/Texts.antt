@@ -9,7 +9,6 @@ use native.Mathlib.Omega.{arith}
 use lib.ListN.{length}
 use Rattle.circles.proofs.Lists.{bool-same}
 use Rattle.climb.specs.System.{Assignment, System, graphOf}
-use Rattle.climb.specs.Circuit.{circleAt}
 use Rattle.climb.proofs.Sums.{sum-same, turns-behind, one-turn}
 use Rattle.climb.proofs.Rounds.{takes-unique}
 use Rattle.wire.specs.Instances.{system}
@@ -17,8 +16,9 @@ use Rattle.demands.specs.Work.{Due, overDue, Climbing, RoundTurn}
 use Rattle.demands.specs.Asked.{ByRank, changedFrom}
 use Rattle.demands.proofs.Updating.{one-least}
 use Rattle.demands.proofs.Circles.{rising-same}
-use Rattle.frames.specs.Out.{dumpText}
+use Rattle.text_frame.specs.Out.{dumpText}
 use Rattle.session.specs.Lines.{UpdateLines, then-round, then-done, UpdateText, SetsText}
+use Rattle.circles.specs.Ranked.{circleAt}
 
 -- ---- turns
 
@@ -57,28 +57,28 @@ module _ (R : List (List ℕ)) (due : ℕ → Bool) (climb other : ℕ → ℕ) 
 
 -- ---- an update
 
-module _ (S : System) (fresh survives : ℕ → Bool) (before : Assignment) where
+module _ (S : System) (fresh survives : ℕ → Bool) (earlier : Assignment) where
   -- an update's text over the least sets v and the circles R
   record Over (v : Assignment) (R : List (List ℕ)) (text : List ℕ) : Type 0 where
     due : ℕ → Bool
-    exactly : (i : ℕ) → (due i ≡ true) ↔ Due S fresh before v (circleAt R i)
+    exactly : (i : ℕ) → (due i ≡ true) ↔ Due S fresh earlier v (circleAt R i)
     climb : ℕ → ℕ
     climbing : (i : ℕ) → i < length R → Climbing S (circleAt R i) v (climb i)
-    lines : UpdateLines R due climb (changedFrom S survives before v) 0 text
+    lines : UpdateLines R due climb (changedFrom S survives earlier v) 0 text
 
-  over : {text : List ℕ} (p : UpdateText S fresh survives before text) → Over (p .sets) (p .circles) text
+  over : {text : List ℕ} (p : UpdateText S fresh survives earlier text) → Over (p .sets) (p .circles) text
   over p = record { due = p .due; exactly = p .exactly; climb = p .climb; climbing = p .climbing; lines = p .lines }
 
   over-same : (v : Assignment) (R : List (List ℕ)) {a b : List ℕ} → Over v R a → Over v R b → a ≡ b
   over-same v R {a} {b} p q =
       let d : q .due ≡ p .due = fun-ext (λ i. bool-same (q .due i) (p .due i) (λ h. p .exactly i .1 (q .exactly i .0 h)) (λ h. q .exactly i .1 (p .exactly i .0 h))) in
-      let l = subst (λ (due : ℕ → Bool). UpdateLines R due (q .climb) (changedFrom S survives before v) 0 b) d (q .lines) in
-      lines-same R (p .due) (p .climb) (q .climb) (changedFrom S survives before v)
+      let l = subst (λ (due : ℕ → Bool). UpdateLines R due (q .climb) (changedFrom S survives earlier v) 0 b) d (q .lines) in
+      lines-same R (p .due) (p .climb) (q .climb) (changedFrom S survives earlier v)
       (λ i h. takes-unique S (circleAt R i) v (p .climb i) (q .climb i) (p .climbing i h .takes) (q .climbing i h .takes)) (p .lines) l
 
   -- where the circles by rank are determined
   pub one-update : ((A B : List (List ℕ)) → ByRank (graphOf S) A → ByRank (graphOf S) B → A ≡ B)
-      → {a b : List ℕ} → UpdateText S fresh survives before a → UpdateText S fresh survives before b → a ≡ b
+      → {a b : List ℕ} → UpdateText S fresh survives earlier a → UpdateText S fresh survives earlier b → a ≡ b
   one-update one {a} {b} p q =
       let e : q .sets ≡ p .sets = one-least S (q .sets) (p .sets) (q .least) (p .least) in
       let c : q .circles ≡ p .circles = one (q .circles) (p .circles) (q .ranked) (p .ranked) in

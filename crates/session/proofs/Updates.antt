@@ -8,7 +8,7 @@ use native.Mathlib.Nat.{le-refl, eq-or-lt-of-le}
 use native.Mathlib.Omega.{arith}
 use lib.Dec.{eqb}
 use lib.ListN.{length}
-use Rattle.lines.proofs.Values.{lt-or-ge}
+use Rattle.text_line.proofs.Values.{lt-or-ge}
 use Rattle.tree.specs.Points.{Part, nodesRow, ownsRow, pointsRow}
 use Rattle.circles.specs.Ranked.{keep, upFrom, ranked}
 use Rattle.climb.specs.System.{Assignment, System, graphOf}
@@ -19,7 +19,7 @@ use Rattle.update.specs.declared.Record.{Record}
 use Rattle.update.specs.Records.{evaluationsMost}
 use Rattle.update.specs.Memories.{Memory}
 use Rattle.update.specs.Steps.{Outcome, done, Ending, paused, finished}
-use Rattle.update.specs.Calls.{Said, refused, said, Left, leaving, Opened, Ranged, ranged, is-open, loadCall, pointsCall, stepCall}
+use Rattle.update.specs.Calls.{Said, refused, said, Left, leaving, Opened, RunOutcome, runOutcome, is-open, loadCall, pointsCall, stepCall}
 use Rattle.update.specs.Points.{WordsIn}
 use Rattle.demands.specs.Engine.{ours}
 use Rattle.demands.specs.History.{Working, at-start, and-step, WorkedToDone, by-step, Opening, loads, replaces, History, finishes}
@@ -37,8 +37,8 @@ pub answered : {A : Type 0} (left : Left A) (a : A) → left .answer ≡ a → l
 answered {A} left a h = ap (λ (x : A). record { answer = x; next = left .next; memory = left .memory }) h
 
 -- an update that demand 3 holds to what was asked for
-module _ {t : List ℕ} {S : System} {R : List (List ℕ)} {fresh : ℕ → Bool} {before v : Assignment} {due : ℕ → Bool} {climb : ℕ → ℕ} {changed : ℕ} {r₀ : Record} {m₀ : Memory}
-    (u : Update ours t S R fresh before v due climb changed r₀ m₀) where
+module _ {t : List ℕ} {S : System} {R : List (List ℕ)} {fresh : ℕ → Bool} {earlier v : Assignment} {due : ℕ → Bool} {climb : ℕ → ℕ} {changed : ℕ} {r₀ : Record} {m₀ : Memory}
+    (u : Update ours t S R fresh earlier v due climb changed r₀ m₀) where
   -- what the steps behind n rounds tell
   record Tells (told : Told) (n : ℕ) : Type 0 where
     pub lines : UpdateLines R due climb changed n (told .text)
@@ -63,11 +63,11 @@ module _ {t : List ℕ} {S : System} {R : List (List ℕ)} {fresh : ℕ → Bool
 
 -- ---- an opening
 
-abbrev endingIn : Said Ranged → Ending
+abbrev endingIn : Said RunOutcome → Ending
 endingIn (refused n) = paused
 endingIn (said a) = a .ending
 
-not-paused : {n k c e x : ℕ} → said (ranged n paused) ≡ said (ranged k (finished c e x)) → ⊥
+not-paused : {n k c e x : ℕ} → said (runOutcome n paused) ≡ said (runOutcome k (finished c e x)) → ⊥
 not-paused {c = c} {e} {x} h = let p : paused ≡ finished c e x = ap endingIn h in let z : _≡_ {A = ℕ} 0 1 = cc in omega arith
 
 module _ {t ns owns : List ℕ} {r : Record} {m : Memory} (o : Opening ours t ns owns r m) where
@@ -90,17 +90,17 @@ module _ {t ns owns : List ℕ} {r : Record} {m : Memory} (o : Opening ours t ns
   by-rank : ByRank (graphOf S) R
   by-rank = loadable-by-rank t ns owns (finished-state (comes .history) .sound)
 
-  module _ {fresh : ℕ → Bool} {before : Assignment} {due : ℕ → Bool} {climb : ℕ → ℕ} {changed : ℕ} (u : Update ours t S R fresh before v due climb changed r m) where
+  module _ {fresh : ℕ → Bool} {earlier : Assignment} {due : ℕ → Bool} {climb : ℕ → ℕ} {changed : ℕ} (u : Update ours t S R fresh earlier v due climb changed r m) where
     few-rounds : roundsDue R due climb < evaluationsMost
     few-rounds = ⊎-elim (λ h. h)
         (λ (h : evaluationsMost ≤ roundsDue R due climb). absurd (not-paused
-        (sym (u .pauses at-start evaluationsMost (omega arith)) ∙ ap (λ (l : Left (Said Ranged)). l .answer) (comes .run))))
+        (sym (u .pauses at-start evaluationsMost (omega arith)) ∙ ap (λ (l : Left (Said RunOutcome)). l .answer) (comes .run))))
         (lt-or-ge (roundsDue R due climb) evaluationsMost)
 
     told : Tells u (toDone t r m) 0
     told = steps-told u _ 0 r m at-start (omega (arith, few-rounds))
 
-    told-text : (survives : ℕ → Bool) → changed ≡ changedFrom S survives before v → UpdateText S fresh survives before (toDone t r m .text)
+    told-text : (survives : ℕ → Bool) → changed ≡ changedFrom S survives earlier v → UpdateText S fresh survives earlier (toDone t r m .text)
     told-text survives e = record {
       sets = v;
       least = least;
@@ -131,9 +131,9 @@ keep-no p [] h = refl
 keep-no p (x ∷ l) h = rw (h x) (keep-no p l h)
 
 -- nothing was there that could have changed
-none-changed : (S : System) (before v : Assignment) → 0 ≡ changedFrom S (λ x. false) before v
+none-changed : (S : System) (earlier v : Assignment) → 0 ≡ changedFrom S (λ x. false) earlier v
 unfolding changedFrom
-none-changed S before v = sym (ap length (keep-no (λ x. S .declared x && false && not (eqb (v x) (before x))) (upFrom 0 (S .size)) (λ x. nothing (S .declared x) (not (eqb (v x) (before x))))))
+none-changed S earlier v = sym (ap length (keep-no (λ x. S .declared x && false && not (eqb (v x) (earlier x))) (upFrom 0 (S .size)) (λ x. nothing (S .declared x) (not (eqb (v x) (earlier x))))))
   where
     nothing : (a b : Bool) → (a && false && b) ≡ false
     nothing true b = refl

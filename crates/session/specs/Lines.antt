@@ -7,20 +7,19 @@ use Prim.Native.Nat.{ℕ, suc, _<_}
 use lib.Dec.{eqb}
 use lib.ListN.{length, getD}
 use Rattle.tree.specs.Points.{Part, nodesRow, ownsRow, pointsRow}
-use Rattle.circles.specs.Ranked.{member}
+use Rattle.circles.specs.Ranked.{circleAt, member}
 use Rattle.circles.specs.Laws.{Rising}
 use Rattle.climb.specs.System.{Assignment, System, graphOf}
-use Rattle.climb.specs.Circuit.{circleAt}
 use Rattle.wire.specs.Instances.{declared, system}
 use Rattle.demands.specs.Work.{Due, Climbing, RoundTurn}
 use Rattle.demands.specs.Asked.{LeastSets, ByRank, newRule, surviving, valueBefore, changedFrom}
 use Rattle.demands.specs.Demands.{roundsDue, circlesDue, evaluationsDue}
-use Rattle.frames.specs.Out.{roundText, doneText, dumpText}
+use Rattle.text_frame.specs.Out.{roundText, doneText, dumpText}
 
 -- ---- an update
 
--- the lines that are left after n rounds. R are the circles by rank, due i says whether circle i is worked on, climb i are the rounds of its climb, and
--- `changed` is what done reports
+-- 19.2, 23.6: the lines that are left after n rounds. R are the circles by rank, due i says whether circle i is worked on, climb i are the rounds of its climb,
+-- and `changed` is what done reports
 pub data UpdateLines (R : List (List ℕ)) (due : ℕ → Bool) (climb : ℕ → ℕ) (changed : ℕ) : ℕ → List ℕ → Type 0 where
   -- it is the turn of round k of circle i: its least instance, k, its size, and 1 in the last of its rounds
   then-round : {n : ℕ} {text : List ℕ} (i k : ℕ) → RoundTurn (length R) due climb i k n → UpdateLines R due climb changed (suc n) text
@@ -28,24 +27,25 @@ pub data UpdateLines (R : List (List ℕ)) (due : ℕ → Bool) (climb : ℕ →
   -- all rounds are made, and `12` comes last
   then-done : {n : ℕ} → n ≡ roundsDue R due climb → UpdateLines R due climb changed n (doneText (circlesDue R due) (evaluationsDue R due climb) changed)
 
--- all that is printed for an update of a tree with the system S: `fresh` tells the instances with a rule in the new part, `survives` those that were there
--- before, and `before` are the values then. The least sets, the circles, which of them are due and how many rounds each takes are determined by these
-pub record UpdateText (S : System) (fresh survives : ℕ → Bool) (before : Assignment) (text : List ℕ) : Type 0 where
+-- 19.2, 23.6, 23.7: all that is printed for an update of a tree with the system S: `fresh` tells the instances with a rule in the new part, `survives` those
+-- that were there before, and `earlier` are the values then. The least sets, the circles, which of them are due and how many rounds each takes are determined by
+-- these
+pub record UpdateText (S : System) (fresh survives : ℕ → Bool) (earlier : Assignment) (text : List ℕ) : Type 0 where
   pub sets : Assignment
   pub least : LeastSets S sets
   pub circles : List (List ℕ)
   pub ranked : ByRank (graphOf S) circles
   pub due : ℕ → Bool
-  pub exactly : (i : ℕ) → (due i ≡ true) ↔ Due S fresh before sets (circleAt circles i)
+  pub exactly : (i : ℕ) → (due i ≡ true) ↔ Due S fresh earlier sets (circleAt circles i)
   pub climb : ℕ → ℕ
   pub climbing : (i : ℕ) → i < length circles → Climbing S (circleAt circles i) sets (climb i)
-  pub lines : UpdateLines circles due climb (changedFrom S survives before sets) 0 text
+  pub lines : UpdateLines circles due climb (changedFrom S survives earlier sets) 0 text
 
--- a load: every instance is fresh, and none was there before
+-- 10.1, 11.4: a load: every instance is fresh, and none was there before
 abbrev pub LoadText : List ℕ → List ℕ → List ℕ → List ℕ → Type 0
 LoadText t ns owns text = UpdateText (system t ns owns) (λ x. true) (λ x. false) (λ x. 0) text
 
--- a replacement at one point or several in the tree with the nodes ns and the own sets owns, whose least sets are `old`
+-- 9.4, 9.6, 10.1: a replacement at one point or several in the tree with the nodes ns and the own sets owns, whose least sets are `old`
 pub record ReplacementText (t ns owns : List ℕ) (ps : List Part) (text : List ℕ) : Type 0 where
   pub old : Assignment
   pub least : LeastSets (system t ns owns) old
@@ -54,7 +54,7 @@ pub record ReplacementText (t ns owns : List ℕ) (ps : List Part) (text : List 
 
 -- ---- a dump
 
--- the declared instances of the tree and no others, rising, each with its value in the least sets
+-- 18.2, 23.3: the declared instances of the tree and no others, rising, each with its value in the least sets
 pub record SetsText (t ns owns text : List ℕ) : Type 0 where
   pub sets : Assignment
   pub least : LeastSets (system t ns owns) sets

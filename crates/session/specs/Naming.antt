@@ -4,9 +4,9 @@ use mathlib.Core.List.{List, [], _∷_}
 use Rattle.refusal.specs.declared.Refusal.{Refusal}
 use Rattle.refusal.specs.declared.Refusal.the-variants as why
 use Rattle.tree.specs.declared.Point.{Point}
-use Rattle.frames.specs.Frames.{frameAt}
-use Rattle.frames.specs.declared.Frame.{Frame}
-use Rattle.frames.specs.declared.Frame.the-variants.{Header, Symbol, Production, Equation, Node, Load, Replace, Dump, Corrections, Correction, Refused, Over}
+use Rattle.text_frame.specs.Frames.{frameAt}
+use Rattle.text_frame.specs.declared.Frame.{Frame}
+use Rattle.text_frame.specs.declared.Frame.the-variants.{Rule, Node, Point as PointFrame, Change, Dump, Refused, Over}
 
 -- points, each with the count of its part, and where the text behind them starts; or the first line that is no point's
 pub data Named : Type 0 where
@@ -18,22 +18,17 @@ abbrev pub pointBefore : Point → Named → Named
 pointBefore q (named qs place line) = named (q ∷ qs) place line
 pointBefore q (unnamed refusal line) = unnamed refusal line
 
--- by a line's frame: the refusal of any other is 14 where it has none of its own
+-- 14.14, 17.7: by a line's frame: a point before those behind it; the refusal of any other, 14 where it has none of its own
 abbrev pub pointThen : Frame → ℕ → Named → Named
-pointThen (Header a b) line rest = unnamed why.Frame line
-pointThen (Symbol a b) line rest = unnamed why.Frame line
-pointThen (Production a b c) line rest = unnamed why.Frame line
-pointThen (Equation a b c d) line rest = unnamed why.Frame line
+pointThen (Rule a) line rest = unnamed why.Frame line
 pointThen (Node a b) line rest = unnamed why.Frame line
-pointThen (Load a) line rest = unnamed why.Frame line
-pointThen (Replace a b) line rest = unnamed why.Frame line
+pointThen (PointFrame point count) line rest = pointBefore (record { node = point; count = count }) rest
+pointThen (Change a) line rest = unnamed why.Frame line
 pointThen Dump line rest = unnamed why.Frame line
-pointThen (Corrections a) line rest = unnamed why.Frame line
-pointThen (Correction point count) line rest = pointBefore (record { node = point; count = count }) rest
 pointThen (Refused refusal own) line rest = unnamed refusal own
 pointThen Over line rest = unnamed why.Frame line
 
--- the points of n lines from a place on
+-- 17.5: the points of n lines from a place on
 unfoldable pub pointsAt : ℕ → List ℕ → ℕ → ℕ → Named
 pointsAt zero s place line = named [] place line
 pointsAt (suc n) s place line = pointThen (frameAt s place line .frame) line (pointsAt n s (frameAt s place line .place) (frameAt s place line .line))

@@ -1,18 +1,17 @@
 -- Each operation gains with what it reads, looks at nothing else, and stays within 64 bits. Assumes nothing.
-use mathlib.Core.Path.{_≡_, refl, sym, ap}
+use mathlib.Core.Path.{refl, sym}
 use mathlib.Core.Bool.{Bool, true, false, cond}
-use mathlib.Core.List.{List, [], _∷_, List·Memᴰ, List·Memᴰ·head, List·Memᴰ·tail, List·Memᴰ·not-nil}
+use mathlib.Core.List.{List, _∷_, List·Memᴰ, List·Memᴰ·head, List·Memᴰ·tail, List·Memᴰ·not-nil}
 use Prim.Native.Nat.{ℕ, _<_, _^_}
 use native.Mathlib.Nat.{le-trans}
-use lib.Dec.{T, leb, eqb, leb→le, le→leb, eqb→eq, eqb-refl, lit<}
-use lib.Bits.{bitAnd, bitOr, and-lt, or-lt, xor-lt}
+use lib.Dec.{T, leb, leb→le, le→leb, eqb→eq, eqb-refl, lit<}
+use lib.Bits.{bitAnd, and-lt, or-lt, xor-lt}
 use Rattle.sets.specs.declared.Argument.{Argument}
-use Rattle.sets.specs.declared.Op.{Op}
 use Rattle.sets.specs.declared.Op.the-variants.{Constant, Own, JoinConstant, MeetConstant, Join, Meet, IfAll, IfMany, JoinOwn, Except}
 use Rattle.sets.specs.Members.{_⊑_, countOf}
 use Rattle.sets.specs.Operations.{within, valueOf}
-use Rattle.sets.specs.Arguments.{argumentsOf, waivedOf, valueAt}
-use Rattle.sets.specs.Laws.{Gains, WaivesRead, Local, Fits, constantOf}
+use Rattle.sets.specs.Arguments.{argumentsOf, waivedOf}
+use Rattle.sets.specs.Laws.{Gains, WaivesRead, Local, Fits}
 use Rattle.sets.proofs.Order.{sub-refl, sub-trans, sub-zero, sub-of-eq, sub-antisym, and-mono, or-mono, without-mono, sub-test, test-sub}
 use Rattle.sets.proofs.Growth.{compared}
 

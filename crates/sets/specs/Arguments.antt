@@ -7,7 +7,7 @@ use Rattle.sets.specs.declared.Op.{Op}
 use Rattle.sets.specs.declared.Op.the-variants.{Constant, Own, JoinConstant, MeetConstant, Join, Meet, IfAll, IfMany, JoinOwn, Except}
 use Rattle.sets.specs.Operations.{valueOf}
 
--- the arguments of an operation, a before b
+-- 3.2: the arguments that an operation uses, a before b
 unfoldable pub argumentsOf : Op → List Argument
 argumentsOf (Constant c) = []
 argumentsOf Own = []
@@ -20,7 +20,7 @@ argumentsOf (IfMany a b c) = a ∷ b ∷ []
 argumentsOf (JoinOwn a) = a ∷ []
 argumentsOf (Except a b) = a ∷ b ∷ []
 
--- the arguments that an operation waives: where these gain members it may lose some. Operation 9 waives its b, and no other any
+-- 3.7: the arguments that an operation waives, by which it may lose when they gain: operation 9 its b, and no other any
 unfoldable pub waivedOf : Op → List Argument
 waivedOf (Constant c) = []
 waivedOf Own = []
@@ -33,10 +33,10 @@ waivedOf (IfMany a b c) = []
 waivedOf (JoinOwn a) = []
 waivedOf (Except a b) = b ∷ []
 
--- the value of an operation over the values of its arguments, in their order; one that is not there is empty
+-- 3.9: an operation's value from those of its arguments, in their order; a value that is missing counts as empty
 abbrev pub valueFrom : Op → ℕ → List ℕ → ℕ
 valueFrom op own values = valueOf op own (getD values 0 0) (getD values 1 0)
 
--- its value where argument x has the value f x
+-- 3.9: the same, where argument x has the value f x
 abbrev pub valueAt : Op → ℕ → (Argument → ℕ) → ℕ
 valueAt op own f = valueFrom op own (map f (argumentsOf op))

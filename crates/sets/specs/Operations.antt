@@ -1,4 +1,4 @@
--- The value of each operation: own is the left node's own set, a and b are the values of its arguments. Assumes nothing.
+-- The value of each operation: own is the left node's own set (3.3), a and b are the values of its arguments. Assumes nothing.
 use mathlib.Core.Path.{_≡_}
 use mathlib.Core.Bool.{Bool, cond}
 use Prim.Native.Nat.{ℕ}
@@ -9,17 +9,15 @@ use Rattle.sets.specs.declared.Op.the-variants.{Constant, Own, JoinConst
 use Rattle.sets.specs.declared.Equation.{Equation}
 use Rattle.sets.specs.Members.{countOf}
 
--- every member of c is in a
+-- 3.2: a has all of c, as operation 6 asks
 abbrev pub within : ℕ → ℕ → Bool
 within c a = eqb (bitAnd c a) c
 
--- the members of a that aren't in b: a without what is in both
+-- 3.2: a but for what it shares with b, as operation 9 gives it
 abbrev pub without : ℕ → ℕ → ℕ
 without a b = bitXor a (bitAnd a b)
 
--- the table of operations: 0 c; 1 the own set of the left node; 2 a joined with c; 3 members of a also in c; 4 a joined with b;
--- 5 members in both a and b; 6 b if every member of c is in a, else empty; 7 b if a has at least c members that count, else empty; 8 a joined with the own set;
--- 9 members of a that aren't in b
+-- 3.2, 3.5, 3.6: each operation's value, by the table there
 unfoldable pub valueOf : Op → ℕ → ℕ → ℕ → ℕ
 valueOf (Constant c) own a b = c
 valueOf Own own a b = own
@@ -32,6 +30,6 @@ valueOf (IfMany _ _ c) own a b = cond (leb c (countOf a)) b 0
 valueOf (JoinOwn _) own a b = bitOr a own
 valueOf (Except _ _) own a b = without a b
 
--- what `value` promises: of an equation, a node's own set and the values of its arguments, the equation's value
+-- 3.1: what `value` promises: of an equation, a node's own set and the values of its arguments, the equation's value
 abbrev pub ValueSays : Equation → ℕ → ℕ → ℕ → ℕ → Type 0
 ValueSays equation own a b v = v ≡ valueOf (equation .op) own a b

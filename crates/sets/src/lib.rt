@@ -1,39 +1,39 @@
-// Sets of hold reasons, and the equations over them. A set is 64 bits: reason code n is bit n, and 0 is the empty set.
+// Sets of hold reasons, and the equations over them: a set is a word with one bit for each reason code, 0 the empty one.
 // Codes 56 to 63 are notes: members like the others, but operation 7 does not count them.
 ghost use Rattle.sets.specs.Members.{MembersSay, CountSays};
 ghost use Rattle.sets.specs.Operations.{ValueSays};
 
-// An argument is a position, 0 the left symbol and 1 to 4 a child, and an index declared there.
+// A place of a production, 0 for the left symbol and 1 to 4 for a child, and the index of a set that is declared there.
 pub struct Argument {
     pub position: u8,
     pub index: u8,
 }
 
-// An operation with the arguments a and b and the constant c that it uses, by its number in document 01.
+// An operation with the arguments a and b and the constant c that it uses, by its number in 3.2.
 pub enum Op {
     // 0: c
     Constant(u64),
-    // 1: the own set of the left node
+    // 1: the own set
     Own,
     // 2: a joined with c
     JoinConstant(Argument, u64),
-    // 3: members of a also in c
+    // 3: what both a and c have
     MeetConstant(Argument, u64),
     // 4: a joined with b
     Join(Argument, Argument),
-    // 5: members in both a and b
+    // 5: what both a and b have
     Meet(Argument, Argument),
-    // 6: b if every member of c is in a, else empty
+    // 6: b if all of c is in a, and nothing if not
     IfAll(Argument, Argument, u64),
-    // 7: b if a has at least c members that count, else empty
+    // 7: b where at least c members of a count, empty where fewer do
     IfMany(Argument, Argument, u64),
-    // 8: a joined with the own set
+    // 8: a joined with own
     JoinOwn(Argument),
-    // 9: members of a that aren't in b
+    // 9: a but for what b has
     Except(Argument, Argument),
 }
 
-// What defines a set: one operation with its own arguments and constant.
+// What defines a set: an operation, with all that it uses.
 pub struct Equation {
     pub op: Op,
 }

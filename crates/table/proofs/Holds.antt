@@ -1,17 +1,15 @@
 -- What a frame that is not refused says. Assumes nothing.
-use Prim.Native.Nat.{ℕ, zero, suc, _+_, _-_, _/_, _%_, _≤_, _<_, zero-le, suc-le-suc}
-use mathlib.Core.Path.{_≡_, refl, ap, sym, _∙_, subst}
-use mathlib.Core.Bool.{Bool, true, false, not, cond, _&&_, _||_, true≢false, false≢true}
-use mathlib.Core.List.{List, [], _∷_}
-use native.Mathlib.Nat.{le-of-suc-le-suc, le-trans}
+use Prim.Native.Nat.{ℕ, zero, suc, _-_, _≤_, _<_, suc-le-suc}
+use mathlib.Core.Path.{_≡_, refl}
+use mathlib.Core.Bool.{Bool, true, false, cond}
+use mathlib.Core.List.{List}
+use native.Mathlib.Nat.{le-trans}
 use native.Mathlib.Omega.{arith}
-use borrow.Author.Tests.{lt-ltb, le-ltb, le-leb, lt-leb, eq-eqb, ne-eqb, ltb-false, leb-false, eqb-false, not-true, not-false}
-use lib.Dec.{leb, ltb, eqb}
-use Rattle.table.specs.First.{someBelow, lowest}
-use Rattle.table.proofs.FirstLaws.{or-false, some-none, some-all}
-use Rattle.table.specs.Words.{symbolCount, productionCount, synthesized, inherited, leftOf, childOf, childCount, symbolAt, defined, occurs, ruleOf, headAt, constantAt}
-use Rattle.table.specs.Equations.{opNumber, aField, bField, usesA, usesB, usesC, misformed}
-use Rattle.table.specs.Judge.{Frame, header, symbol, production, equation, outside, foreignAt, countWrong, symbolWrong, startWrong, formWrong, argumentWrong, misnamed, refusalAt}
+use borrow.Author.Tests.{le-ltb, ltb-false, leb-false}
+use lib.Dec.{ltb}
+use Rattle.table.proofs.FirstLaws.{or-false, some-none}
+use Rattle.table.specs.Words.{symbolCount, productionCount, synthesized, inherited, leftOf, childOf, childCount, symbolAt, defined}
+use Rattle.table.specs.Judge.{Frame, header, symbol, production, outside, foreignAt, countWrong, symbolWrong, startWrong, formWrong, argumentWrong, refusalAt}
 use Rattle.table.specs.Shape.{Symbols, Shaped}
 
 -- a frame holds where none of the five conditions does

@@ -1,19 +1,18 @@
 -- A frame's number depends on the words of that frame and of those before it: what a reader writes behind them does not matter. Assumes nothing.
-use Prim.Native.Nat.{ℕ, zero, suc, _+_, _/_, _%_, _≤_, _<_, suc-le-suc}
-use native.Mathlib.Nat.{le-of-suc-le-suc}
-use mathlib.Core.Path.{_≡_, refl, ap, sym, _∙_}
-use mathlib.Core.Bool.{Bool, true, false, not, _&&_, _||_}
+use Prim.Native.Nat.{ℕ, zero, suc, _+_, _/_, _%_, _<_}
+use mathlib.Core.Path.{_≡_, refl, ap, _∙_}
+use mathlib.Core.Bool.{Bool, true, false, _&&_}
 use mathlib.Core.List.{List}
 use native.Mathlib.Omega.{arith}
 use borrow.Author.Tests.{leb-true}
-use lib.Dec.{leb, ltb}
+use lib.Dec.{leb}
 use lib.ListN.{getD}
 use Rattle.table.specs.First.{someBelow}
-use Rattle.table.specs.Words.{symbolCount, productionCount, synthesized, inherited, leftOf, childOf, childCount, symbolAt, defined, hasSet, occurs, ruleOf, headAt, constantAt}
-use Rattle.table.specs.Equations.{opNumber, aField, bField, usesA, usesB, misformed}
+use Rattle.table.specs.Words.{symbolCount, productionCount, synthesized, inherited, leftOf, childOf, childCount, symbolAt, hasSet, occurs, ruleOf, headAt, constantAt}
+use Rattle.table.specs.Equations.{opNumber, aField, bField, usesA, usesB}
 use Rattle.table.specs.Judge.{header, symbol, production, equation, foreignAt, misnamed, refusalAt}
 use Rattle.table.specs.Shape.{Shaped}
-use Rattle.table.specs.Local.{Local}
+use Rattle.table.specs.Inner.Local.{Local}
 
 some-same : (f g : ℕ → Bool) (n : ℕ) → ((i : ℕ) → i < n → f i ≡ g i) → someBelow f n ≡ someBelow g n
 unfolding someBelow

@@ -2,10 +2,11 @@
 use Prim.Native.Nat.{ℕ, suc}
 use mathlib.Core.Path.{_≡_, ap, _∙_}
 use mathlib.Core.List.{List, [], _∷_}
-use Rattle.table.specs.First.{orElse, first, row, scan}
+use Rattle.refusal.specs.Orders.{orElse}
+use Rattle.table.specs.First.{first, row}
 use Rattle.table.specs.Words.{symbolCount, productionCount, childCount, defined}
 use Rattle.table.specs.Judge.{header, symbol, production, equation, partOf, frames, refusalAt, judgeTable}
-use Rattle.table.specs.Parts.{symbolNumber, equationNumber, symbolsOf, positionOf, equationsOf, partNumber, productionsOf}
+use Rattle.table.specs.Inner.Parts.{symbolNumber, equationNumber, symbolsOf, positionOf, partNumber, productionsOf}
 use Rattle.table.proofs.FirstLaws.{first-append, first-row, first-one}
 
 part-first : (t : List ℕ) (p : ℕ) → first (refusalAt t) (partOf t p) ≡ partNumber t p

@@ -3,14 +3,15 @@ use Prim.Native.Nat.{ℕ, zero, suc, _+_, _≤_, _<_, zero-le, suc-le-suc}
 use mathlib.Core.Path.{_≡_, refl, ap, sym, _∙_, subst}
 use mathlib.Core.Bool.{Bool, true, false, cond, false≢true}
 use mathlib.Core.List.{List, [], _∷_, _++_, List·Memᴰ, List·Memᴰ·head, List·Memᴰ·tail, List·Memᴰ·not-nil, List·Memᴰ·cases-cons}
-use mathlib.Core.Logic.{⊎-elim}
+use mathlib.Core.Logic.{_⊎_, inl, inr, ⊎-elim}
 use native.Mathlib.Nat.{le-of-suc-le-suc, not-suc-le-zero}
 use native.Mathlib.Omega.{arith}
 use lib.ListN.{getD}
-use Rattle.table.specs.First.{orElse, first, lowest}
-use Rattle.table.specs.Judge.{Frame, countWrong, symbolWrong, startWrong, formWrong, argumentWrong, conditions, frames, refusalAt, judgeTable}
+use Rattle.refusal.specs.Orders.{orElse, Agrees}
+use Rattle.table.specs.First.{first, lowest}
+use Rattle.table.specs.Judge.{Frame, countWrong, symbolWrong, startWrong, formWrong, argumentWrong, conditions, frames, refusalAt, judgeTable, tableCheck}
 use Rattle.table.specs.Refused.{breaks, Lowest, Refused, UnbrokenExactly, RefusedExactly, FiveNumbers}
-use Rattle.table.proofs.FirstLaws.{or-right, or-left, or-none}
+use Rattle.refusal.proofs.Orders.{or-right, or-left, or-none, agree-judged}
 
 -- the first condition of a list that holds
 low-none : (bs : List Bool) (n : ℕ) → lowest (suc n) bs ≡ 0 → (k : ℕ) → getD bs k false ≡ false
@@ -181,3 +182,10 @@ frame-most t x =
 pub five-numbers : FiveNumbers
 unfolding judgeTable
 five-numbers t = first-most (refusalAt t) 5 (frames t) (frame-most t)
+
+pub agree-table : (t : List ℕ) → Agrees (tableCheck t)
+agree-table t = agree-judged 1 5 (judgeTable t) (zero-or (judgeTable t) (five-numbers t))
+  where
+    zero-or : (n : ℕ) → n ≤ 5 → (n ≡ 0) ⊎ ((1 ≤ n) × (n ≤ 5))
+    zero-or zero h = inl refl
+    zero-or (suc n) h = inr (omega arith, h)

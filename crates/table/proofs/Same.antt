@@ -5,7 +5,7 @@ use mathlib.Core.Bool.{Bool, true, false, _&&_}
 use mathlib.Core.List.{List}
 use borrow.Author.Tests.{leb-true}
 use lib.Dec.{leb}
-use Rattle.table.specs.Words.{symbolCount, productionCount, synthesized, inherited, leftOf, childOf, childCount, symbolAt, defined, hasSet, occurs, ruleOf, headAt, constantAt}
+use Rattle.table.specs.Words.{symbolCount, productionCount, synthesized, inherited, leftOf, childOf, childCount, symbolAt, defined, hasSet, occurs, ruleOf, headAt}
 use Rattle.table.specs.Equations.{aField, bField, equationAt}
 use Rattle.table.specs.Same.{Has, Same}
 use Rattle.table.specs.Sound.{Sound, Named}

@@ -1,20 +1,21 @@
 -- A table is judged sound exactly when none of the conditions holds. Assumes nothing.
 use Prim.Native.Nat.{ℕ, zero, suc, _/_, _%_, _≤_, _<_, suc-le-suc}
 use mathlib.Core.Path.{_≡_, refl, sym, _∙_}
-use mathlib.Core.Bool.{Bool, true, false, not, _&&_, _||_, true≢false, false≢true}
+use mathlib.Core.Bool.{Bool, true, false, not, _&&_, true≢false, false≢true}
 use mathlib.Core.List.{List}
 use native.Mathlib.Nat.{le-of-suc-le-suc}
 use native.Mathlib.Omega.{arith}
 use borrow.Author.Tests.{le-ltb, lt-leb, ne-eqb, ltb-false, eqb-true, eqb-false, not-false}
 use lib.Dec.{ltb, eqb}
-use Rattle.table.specs.First.{orElse}
+use Rattle.refusal.specs.Orders.{orElse}
 use Rattle.table.specs.Words.{symbolCount, productionCount, synthesized, inherited, childCount, symbolAt, defined, occurs, ruleOf, headAt, constantAt}
 use Rattle.table.specs.Equations.{opNumber, aField, bField, usesA, usesB, usesC, misformed}
 use Rattle.table.specs.Judge.{header, symbol, production, equation, outside, foreignAt, startWrong, argumentWrong, misnamed, refusalAt, judgeTable}
-use Rattle.table.specs.Parts.{symbolNumber, equationNumber, symbolsOf, positionOf, equationsOf, partNumber, productionsOf}
+use Rattle.table.specs.Inner.Parts.{symbolNumber, equationNumber, symbolsOf, positionOf, equationsOf, partNumber, productionsOf}
 use Rattle.table.specs.Same.{Has}
 use Rattle.table.specs.Sound.{Formed, Named, Sound, SoundExactly}
-use Rattle.table.proofs.FirstLaws.{or-false, or-none, or-right, some-all, scan-none, scan-all}
+use Rattle.refusal.proofs.Orders.{or-none, or-right}
+use Rattle.table.proofs.FirstLaws.{or-false, some-all, scan-none, scan-all}
 use Rattle.table.proofs.Parts.{judge-parts}
 use Rattle.table.proofs.Holds.{Holds, holds, held, outside-false, inside, below-count}
 

@@ -1,7 +1,7 @@
--- Session A's table, and tables that are refused. Assumes nothing.
+-- Session A's table (26.1), and tables that are refused. Assumes nothing.
 use Prim.Native.Nat.{ℕ}
 use mathlib.Core.Path.{_≡_, refl}
-use mathlib.Core.List.{List, [], _∷_}
+use mathlib.Core.List.{List}
 use lib.ListN.{replicate, set}
 use Rattle.table.specs.First.{first, row, someBelow}
 use Rattle.table.specs.Words.{symbolCount, productionCount, synthesized, inherited, leftOf, childCount, childOf, hasSet, occurs, ruleOf, headAt, constantAt}
@@ -11,7 +11,7 @@ use Rattle.table.specs.Judge.{partOf, frames, misnamed, refusalAt, judge
 unfoldable pub put : List ℕ → ℕ → ℕ → List ℕ
 put t i v = set t i v
 
--- two symbols, three productions; what lies behind the last equation is no part of the table
+-- 26.1: two symbols, three productions; what lies behind the last equation is no part of the table
 unfoldable pub tableA : List ℕ
 unfolding put
 tableA =
@@ -36,7 +36,7 @@ a-refused :
 unfolding tableA put judgeTable first row someBelow symbolCount productionCount synthesized inherited leftOf childCount childOf hasSet occurs ruleOf headAt constantAt opNumber aField bField usesA usesB usesC misformed partOf frames misnamed refusalAt
 a-refused = (refl, refl, refl, refl, refl, refl, refl)
 
--- an operation 7 with c 56 is sound, with c 57 it is not
+-- 25.2: an operation 7 with c 56 is sound, with c 57 it is not
 a-counts :
     let counting = put tableA 137 30065033220 in
     (judgeTable (put counting 138 56) ≡ 0)

@@ -4,9 +4,8 @@ pub mod Equations
 pub mod Judge
 pub mod Same
 pub mod Shape
-pub mod Parts
 pub mod Sound
 pub mod Refused
 pub mod Limits
-pub mod Local
 pub mod Example
+pub mod Inner

@@ -1,16 +1,16 @@
--- "What lies in memory beyond a table's counts is no part of the table, and equality doesn't look at it." Assumes nothing.
+-- When two lists of words are one table. Assumes nothing.
 use Prim.Native.Nat.{ℕ, _≤_, _<_}
 use mathlib.Core.Path.{_≡_}
 use mathlib.Core.List.{List}
 use Rattle.table.specs.Words.{symbolCount, productionCount, synthesized, inherited, childCount, symbolAt, defined, ruleOf, headAt, constantAt}
 
--- the table has the equation k of position q of production p
+-- 2.5: the table has the equation k of position q of production p
 pub record Has (t : List ℕ) (p q k : ℕ) : Type 0 where
   pub production : p < productionCount t
   pub position : q ≤ childCount t p
   pub set : k < defined t p q
 
--- two lists of words are the same table
+-- 2.9: t and u are one table: wherever the counts come to, they say the same
 pub record Same (t u : List ℕ) : Type 0 where
   pub symbols : symbolCount t ≡ symbolCount u
   pub productions : productionCount t ≡ productionCount u

@@ -9,7 +9,7 @@ use Rattle.table.specs.Equations.{opNumber, aField, bField, usesA, usesB
 use Rattle.table.specs.Judge.{judgeTable}
 use Rattle.table.specs.Same.{Has}
 
--- op is at most 9, unused fields are zero, and op 7 has c at most 56
+-- 3.4, 3.6: a known operation, nothing in the fields that it leaves unused, and for operation 7 a c of at most 56
 pub record Formed (h constant : ℕ) : Type 0 where
   pub known : opNumber h ≤ 9
   pub a : usesA (opNumber h) ≡ false → aField h ≡ 0
@@ -17,27 +17,27 @@ pub record Formed (h constant : ℕ) : Type 0 where
   pub c : usesC (opNumber h) ≡ false → constant ≡ 0
   pub few : opNumber h ≡ 7 → constant ≤ 56
 
--- every argument that is used is declared
+-- 2.7: every argument that is used is declared
 pub record Named (t : List ℕ) (p h : ℕ) : Type 0 where
   pub a : usesA (opNumber h) ≡ true → occurs t p (aField h / 256) (aField h % 256) ≡ true
   pub b : usesB (opNumber h) ≡ true → occurs t p (bField h / 256) (bField h % 256) ≡ true
 
--- none of the conditions of 1 to 5 holds, as numbers
+-- 14.1 to 14.5: none of the conditions holds, as numbers
 pub record Sound (t : List ℕ) : Type 0 where
-  -- "1: a table count is outside its limit"
+  -- 14.1: every count within its limits
   pub symbols : (1 ≤ symbolCount t) × (symbolCount t ≤ 32)
   pub productions : (1 ≤ productionCount t) × (productionCount t ≤ 64)
   pub sets : (s : ℕ) → s < symbolCount t → (synthesized t s ≤ 4) × (inherited t s ≤ 4)
   pub children : (p : ℕ) → p < productionCount t → childCount t p ≤ 4
-  -- "2: a symbol number isn't below the symbol count"
+  -- 14.2: every symbol exists
   pub below : (p q : ℕ) → p < productionCount t → q ≤ childCount t p → symbolAt t p q < symbolCount t
-  -- "3: symbol 0 has an inherited set"
+  -- 14.3: symbol 0 inherits nothing
   pub start : inherited t 0 ≡ 0
-  -- 4: op above 9, an unused field not zero, or op 7 with c above 56
+  -- 14.4: every equation is well formed
   pub formed : (p q k : ℕ) → Has t p q k → Formed (headAt t (ruleOf p q k)) (constantAt t (ruleOf p q k))
-  -- "5: an argument names no declared occurrence"
+  -- 14.5: every argument is declared
   pub named : (p q k : ℕ) → Has t p q k → Named t p (headAt t (ruleOf p q k))
 
--- a table is judged sound exactly when it is
+-- 15.2: a table is judged sound exactly when it is
 abbrev pub SoundExactly : Type 0
 SoundExactly = (t : List ℕ) → (judgeTable t ≡ 0) ↔ Sound t

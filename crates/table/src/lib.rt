@@ -3,6 +3,16 @@ mod equations;
 mod words;
 
 pub use equations::equation_at;
+pub use words::CONSTANTS;
+pub use words::FIRST;
+pub use words::HEADS;
+pub use words::OPERATION;
+pub use words::PRODUCTIONS;
+pub use words::RULES_EACH;
+pub use words::SETS_EACH;
+pub use words::SYMBOLS;
+pub use words::UPPER;
+pub use words::WORDS;
 pub use words::child_count;
 pub use words::child_of;
 pub use words::constant_at;

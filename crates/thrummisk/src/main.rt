@@ -1,4 +1,4 @@
 // The session program: standard input to standard output.
 fn main() {
-    channel::serve(0, 1);
+    session_serve::serve(0, 1);
 }

@@ -1,17 +1,17 @@
 -- Nodes are judged sound exactly when they are a tree, and refused by 6 and by 7 exactly at the first bad node. Assumes nothing.
 use Prim.Native.Nat.{ℕ, zero, suc, _+_, _≤_, _<_}
-use mathlib.Core.Path.{_≡_, refl, ap, sym, subst, _∙_}
-use mathlib.Core.Logic.{_⊎_, inl, inr, ⊎-elim}
+use mathlib.Core.Path.{_≡_, refl, ap, sym, _∙_}
+use mathlib.Core.Logic.{_⊎_, inl, inr}
 use mathlib.Core.List.{List, [], _∷_, _++_, append-assoc, append-nil}
 use lib.ListN.{length, take, drop, length-drop, length-append, take-append-drop}
 use native.Mathlib.Nat.{le-refl}
 use native.Mathlib.Decide.{decLt, ℕ-discrete}
 use native.Mathlib.Omega.{arith}
-use Rattle.table.specs.Words.{productionCount, leftOf, childCount, children}
+use Rattle.table.specs.Words.{productionCount, leftOf, children}
 use Rattle.tree.specs.Tree.{judgeNodes, size}
 use Rattle.tree.specs.Judged.{Subtree, node, Row, none, more, Good, begin, next, Number, Shape, missing, over, wrong, TreeExactly, GoodExactly, NumberExactly, ShapeExactly, ThreeVerdicts}
 use Rattle.tree.proofs.Nodes.{judge-none, node-number, node-over, node-wrong, node-step}
-use Rattle.tree.proofs.Exchange.{no-end, no-over, first, frame, parts, row-length}
+use Rattle.tree.proofs.Exchange.{no-end, no-over, first, frame, parts}
 
 module _ (t : List ℕ) where
   -- ---- good nodes in front are used up

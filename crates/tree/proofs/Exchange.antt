@@ -1,23 +1,18 @@
 -- What a sound list of nodes says of its nodes, and a subtree exchanged for another of its symbol. Assumes nothing.
-use Prim.Native.Nat.{ℕ, zero, suc, _+_, _-_, _≤_, _<_}
-use mathlib.Core.Path.{_≡_, refl, ap, sym, subst, _∙_}
-use mathlib.Core.List.{List, [], _∷_, _++_, append-assoc, append-nil}
-use mathlib.Core.Logic.{⊎-elim, _⊎_, inl, inr}
-use lib.ListN.{length, getD, take, drop, length-append, length-drop, length-take, take-append-drop}
+use Prim.Native.Nat.{ℕ, zero, suc, _+_, _-_, _<_}
+use mathlib.Core.Path.{_≡_, refl, ap, sym, _∙_}
+use mathlib.Core.List.{List, [], _∷_, _++_, append-assoc}
+use lib.ListN.{length, getD, take, drop, length-append, length-drop, take-append-drop}
 use lib.Seq.{drop-cons, drop-drop}
-use native.Mathlib.Nat.{zero-add, suc-add, add-zero, add-assoc}
-use native.Mathlib.Numerals.{add-one}
+use native.Mathlib.Nat.{zero-add, suc-add, add-assoc}
 use native.Mathlib.Decide.{decLt, ℕ-discrete}
 use native.Mathlib.Omega.{arith}
-use Rattle.table.specs.Words.{productionCount, leftOf, childCount, childOf, childrenFrom, children}
-use Rattle.table.specs.Limits.{Limits}
+use Rattle.table.specs.Words.{productionCount, leftOf, childCount, childrenFrom, children}
 use lib.Dec.{ltb, eqb}
 use borrow.Author.Tests.{eq-eqb, ne-eqb}
 use mathlib.Core.Bool.{cond}
-use Rattle.tree.specs.Tree.{judgeNodes, size, spanEnd, childAt}
-use Rattle.tree.specs.Spans.{Numbers}
+use Rattle.tree.specs.Tree.{judgeNodes, size, spanEnd}
 use Rattle.tree.proofs.Nodes.{judge-none, node-number, node-over, node-wrong, node-step}
-use Rattle.tree.proofs.Size.{size-zero, size-le, size-add}
 
 pub row-length : (t : List ℕ) (p n k : ℕ) → length (childrenFrom t p n k) ≡ n
 unfolding childrenFrom
@@ -168,16 +163,6 @@ module _ (t : List ℕ) where
       let f = kids ns ws e q h in
       let p = getD ns q 0 in
       omega (arith, length-drop (suc q) ns, inside (drop (suc q) ns) (children t p ++ f .wanted) (f .sound) k ys (omega (arith, length-append (children t p) (f .wanted), row-length t p (childCount t p) 0)))
-
-  pub sound-numbers : (ns ws : List ℕ) → Limits t → judgeNodes t ns ws ≡ 0 → Numbers ns
-  sound-numbers ns ws l e = record { number = λ n h. omega (arith, sound-number ns ws e n h, l .productions) }
-
-  -- a tree ends where its first node's subtree does
-  pub sound-end : (ns : List ℕ) (s : ℕ) → judgeNodes t ns (s ∷ []) ≡ 0 → spanEnd t ns 0 ≡ length ns
-  unfolding spanEnd size
-  sound-end ns s e =
-      let f : size t ns 1 ≡ length ns + size t [] 0 = rw append-nil at (frame-size ns (s ∷ []) e 0 []) in
-      omega arith
 
   pub sound-some : (ns : List ℕ) (s : ℕ) → judgeNodes t ns (s ∷ []) ≡ 0 → 0 < length ns
   sound-some ns s e = omega (arith, inside ns (s ∷ []) e 0 [] (omega arith))

@@ -13,3 +13,4 @@ pub mod Elements
 pub mod Replace
 pub mod Points
 pub mod EitherOrder
+pub mod Numbered

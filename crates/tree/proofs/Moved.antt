@@ -1,17 +1,16 @@
 -- Where the places go when a subtree is exchanged. Assumes nothing.
 use Prim.Native.Nat.{ℕ, zero, suc, _+_, _-_, _≤_, _<_}
-use mathlib.Core.Path.{_≡_, refl, ap, sym, subst, _∙_}
+use mathlib.Core.Path.{_≡_, refl, ap, sym, _∙_}
 use mathlib.Core.List.{List, [], _∷_, _++_, append-assoc}
-use mathlib.Core.Logic.{⊎-elim, _⊎_, inl, inr}
-use lib.ListN.{length, getD, take, drop, length-append, length-drop, List·getD-append}
-use lib.Seq.{drop-append-le, drop-append-add, getD-append-add, drop-drop, getD-drop}
-use native.Mathlib.Nat.{zero-add, suc-add, add-zero, add-suc, add-assoc}
-use native.Mathlib.Decide.{decLt, decLe}
+use lib.ListN.{length, getD, drop, length-append, length-drop, List·getD-append}
+use lib.Seq.{drop-append-le, drop-append-add, getD-append-add, getD-drop}
+use native.Mathlib.Nat.{add-zero, add-suc}
+use native.Mathlib.Decide.{decLt}
 use native.Mathlib.Omega.{arith}
-use Rattle.table.specs.Words.{leftOf, childCount, children}
+use Rattle.table.specs.Words.{childCount}
 use Rattle.tree.specs.Moved.{Moved, stays, shifts, Outer, ahead, behind}
 use Rattle.tree.specs.Tree.{judgeNodes, size, spanEnd, childAt, Child}
-use Rattle.tree.proofs.Size.{size-zero, size-le, size-add, child-after}
+use Rattle.tree.proofs.Size.{size-zero, child-after}
 use Rattle.tree.proofs.Exchange.{frame-size, sound-some, child-inside}
 
 module _ {r k s : ℕ} where

@@ -1,5 +1,5 @@
 -- How the judgement of nodes goes at a place. Assumes nothing.
-use Prim.Native.Nat.{ℕ, zero, suc, _+_, _-_, _≤_, _<_}
+use Prim.Native.Nat.{ℕ, suc, _+_, _-_, _≤_, _<_}
 use mathlib.Core.Path.{_≡_, refl, ap, sym, _∙_}
 use mathlib.Core.List.{List, [], _∷_, _++_}
 use lib.ListN.{length, getD, drop, drop-of-length-le}
@@ -7,8 +7,7 @@ use lib.Seq.{drop-cons}
 use native.Mathlib.Numerals.{add-one}
 use native.Mathlib.Omega.{arith}
 use borrow.Author.Tests.{lt-ltb, le-ltb, eq-eqb, ne-eqb}
-use Rattle.table.specs.Words.{productionCount, leftOf, childCount, childOf, childrenFrom, children}
-use mathlib.Core.Bool.{cond}
+use Rattle.table.specs.Words.{productionCount, leftOf, childOf, childrenFrom, children}
 use Rattle.tree.specs.Tree.{judgeNodes}
 
 pub judge-none : (t : List ℕ) → judgeNodes t [] [] ≡ 0

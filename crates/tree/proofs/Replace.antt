@@ -1,10 +1,9 @@
 -- Node r's subtree in a tree, exchanged for another of its symbol, by places. Assumes nothing.
 use Prim.Native.Nat.{ℕ, _+_, _-_, _≤_, _<_}
-use mathlib.Core.Path.{_≡_, refl, ap, sym, _∙_}
+use mathlib.Core.Path.{_≡_, ap, sym, _∙_}
 use mathlib.Core.List.{List, [], _∷_, _++_}
 use lib.ListN.{length, getD, take, drop, length-drop, take-append-drop}
 use lib.Seq.{drop-drop, length-take-le}
-use lib.Dec.{leb}
 use borrow.Author.Tests.{le-leb, lt-leb}
 use native.Mathlib.Decide.{decLt}
 use native.Mathlib.Omega.{arith}
@@ -12,7 +11,7 @@ use Rattle.table.specs.Words.{leftOf}
 use Rattle.tree.specs.Tree.{judgeNodes, spanEnd, childAt, Child}
 use Rattle.tree.specs.Moved.{Moved, stays, shifts, Outer, ahead, behind}
 use Rattle.tree.specs.Replace.{exchanged, part, formerly}
-use Rattle.tree.specs.Replacement.{after, Goes, Around, Replacement, ReplacementLaw}
+use Rattle.tree.specs.Replacement.{after, Goes, Around, ReplacementLaw}
 use Rattle.tree.proofs.Size.{size-le}
 use Rattle.tree.proofs.Exchange.{subtree-sound, exchange, sound-some}
 use Rattle.tree.proofs.Moved.{moved-one, moved-back, outer-back, end-moved, node-moved, child-moved, child-goes, parent-around}

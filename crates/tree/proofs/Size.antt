@@ -1,17 +1,16 @@
 -- Sizes, ends and places of children. Assumes nothing.
 use Prim.Native.Nat.{ℕ, zero, suc, _+_, _-_, _≤_, _<_}
 use mathlib.Core.Path.{_≡_, refl, ap, sym, _∙_}
-use mathlib.Core.List.{List, [], _∷_, _++_}
+use mathlib.Core.List.{List, [], _∷_}
 use lib.ListN.{length, getD, drop, set, length-drop, drop-of-length-le}
 use mathlib.Core.Logic.{⊎-elim}
-use lib.Seq.{drop-cons, drop-drop, getD-set-same, getD-set-other, ext-getD}
+use lib.Seq.{drop-cons, drop-drop, getD-set-same, getD-set-other}
 use native.Mathlib.Nat.{eq-or-lt-of-le, zero-add, suc-add, add-zero, add-assoc}
 use native.Mathlib.Numerals.{add-one}
-use native.Mathlib.Decide.{decLt}
 use native.Mathlib.Omega.{arith}
 use Rattle.table.specs.Words.{childCount}
 use Rattle.tree.specs.Tree.{size, spanEnd, childAt}
-use Rattle.tree.specs.Spans.{Ended, Spans}
+use Rattle.tree.specs.Inner.Spans.{Ended}
 
 module _ (t : List ℕ) where
   pub size-zero : (ns : List ℕ) → size t ns 0 ≡ 0
@@ -86,12 +85,3 @@ module _ (t ns ends : List ℕ) (at : ℕ) (h : at < length ends) where
       (λ e. rw (← e) (getD-set-same ends at (spanEnd t ns at) 0 h))
       (λ l. getD-set-other ends at n (spanEnd t ns at) 0 (λ e. omega arith) ∙ f n (omega arith) lt)
       (eq-or-lt-of-le le)
-
--- the ends that `spans` writes are the only ones that fit
-pub spans-one : (t ns before a b : List ℕ) → Spans t ns before a → Spans t ns before b → a ≡ b
-spans-one t ns before a b f g =
-    ext-getD 0 a b (f .long ∙ sym (g .long))
-    (λ i h. elim (decLt i (length ns)) [
-      | yes l ↦ f .nodes i (omega arith) l ∙ sym (g .nodes i (omega arith) l)
-      | no l ↦ f .others i (omega arith) ∙ sym (g .others i (omega arith))
-    ])

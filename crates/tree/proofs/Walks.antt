@@ -1,6 +1,6 @@
 -- How a walk's answer follows from the answers of the walks that it calls. Assumes nothing.
 use Prim.Native.Nat.{ℕ, suc, _+_, _-_, _≤_, _<_}
-use mathlib.Core.Path.{_≡_, refl, sym, subst, _∙_}
+use mathlib.Core.Path.{_≡_, refl, subst, _∙_}
 use mathlib.Core.List.{List, [], _∷_, _++_}
 use lib.ListN.{length, getD, drop}
 use native.Mathlib.Nat.{le-refl, sub-zero}
@@ -8,7 +8,7 @@ use native.Mathlib.Omega.{arith}
 use Rattle.table.specs.Words.{productionCount, leftOf, childCount, childOf, childrenFrom, children}
 use Rattle.tree.specs.Tree.{judgeNodes}
 use Rattle.tree.proofs.Nodes.{judge-step, row-none, row-more}
-use Rattle.tree.specs.Says.{Passed, Says}
+use Rattle.tree.specs.Inner.Says.{Passed, Says}
 use Rattle.tree.specs.declared.Walk.{Walk}
 use Rattle.tree.specs.declared.Walk.the-variants.{Behind, Wrong}
 

@@ -1,4 +1,4 @@
--- Session A's tree, and nodes that are refused. Assumes nothing.
+-- Session A's tree (26.2), and nodes that are refused. Assumes nothing.
 use Prim.Native.Nat.{ℕ}
 use mathlib.Core.Path.{_≡_, refl}
 use mathlib.Core.List.{List, [], _∷_}

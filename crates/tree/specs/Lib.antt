@@ -1,9 +1,8 @@
 pub mod Tree
+pub mod Numbered
 pub mod Owner
 pub mod Replace
 pub mod Refusals
-pub mod Says
-pub mod Spans
 pub mod Judged
 pub mod Refused
 pub mod Parents
@@ -16,3 +15,4 @@ pub mod Handed
 pub mod Example
 pub mod PointExample
 pub mod OrderExample
+pub mod Inner

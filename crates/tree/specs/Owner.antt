@@ -5,7 +5,7 @@ use mathlib.Core.List.{List, [], _∷_}
 use lib.Dec.{ltb}
 use Rattle.table.specs.Words.{childCount}
 
--- a node is the first node of subtree j of a row, or child k of node q
+-- 4.2: a node is the first node of subtree j of a row, or child k of node q
 pub data Owner : Type 0 where
   root : ℕ → Owner
   kid : ℕ → ℕ → Owner
@@ -19,6 +19,7 @@ abbrev pub under : ℕ → Owner → Owner
 under count (root j) = pickOwner (ltb j count) (kid 0 j) (root (suc (j - count)))
 under count (kid q k) = kid (suc q) k
 
+-- 4.2: which of these node m is
 unfoldable pub owner : List ℕ → List ℕ → ℕ → Owner
 owner t [] m = root 0
 owner t (p ∷ ns) zero = root 0

@@ -12,17 +12,19 @@ use Rattle.tree.specs.Replace.{part}
 use Rattle.tree.specs.Replacement.{after}
 use Rattle.tree.specs.Points.{Part, partAt, nodesRow, ownsRow, splicedRow, leavingRow, comingRow, pointsRow, pointAt, isNew, isOld, isPoint, formerRow, backRow, overlaps, Row}
 
--- one step of the row is a single replacement in the tree that the parts behind leave: the point is a node of that tree, with the subtree and the symbol that it had
+-- 9.5: one step of the row is a single replacement in the tree that the parts behind leave: the point is a node of that tree,
+-- with the subtree and the symbol that it had
 pub record Step (t ns : List ℕ) (p : Part) (ps : List Part) : Type 0 where
   pub inside : p .point < length (nodesRow t ns ps)
   pub node : getD (nodesRow t ns ps) (p .point) 0 ≡ getD ns (p .point) 0
   pub part : part t (nodesRow t ns ps) (p .point) ≡ part t ns (p .point)
   pub after : nodesRow t ns (p ∷ ps) ≡ after t (nodesRow t ns ps) (p .nodes) (p .point)
 
--- a point behind k old nodes that made way for s new ones
+-- 9.4: a point behind k old nodes that made way for s new ones
 abbrev pub shift : ℕ → ℕ → Point → Point
 shift k s q = record { node = q .node + s - k; count = q .count }
 
+-- 9.4, 9.5, 9.6: how the tree of a row corresponds to the one before
 pub record RowLaw (t ns : List ℕ) (w : ℕ) (ps : List Part) : Type 0 where
   -- the new tree is one, and so is each on the way, where the first i parts are yet to come
   pub sound : judgeNodes t (nodesRow t ns ps) (w ∷ []) ≡ 0
@@ -47,14 +49,14 @@ pub record RowLaw (t ns : List ℕ) (w : ℕ) (ps : List Part) : Type 0 where
   -- its old number, in one look
   pub closed : (m : ℕ) → isOld (pointsRow t ns ps) m ≡ true → formerRow t ns ps m ≡ backRow t ns 0 0 ps m
 
--- of a tree of symbol w, and parts that fit points that rise and lie apart
+-- 9.1, 9.3: of a tree of symbol w, and parts that fit points that rise and lie apart
 abbrev pub AllRows : Type 0
 AllRows = (t ns : List ℕ) (w from : ℕ) (ps : List Part) → judgeNodes t ns (w ∷ []) ≡ 0 → Row t ns from ps → RowLaw t ns w ps
 
 abbrev pub AllSteps : Type 0
 AllSteps = (t ns : List ℕ) (w from : ℕ) (p : Part) (ps : List Part) → judgeNodes t ns (w ∷ []) ≡ 0 → Row t ns from (p ∷ ps) → Step t ns p ps
 
--- two of the points meet: the later one isn't behind the earlier one, or lies inside its old part
+-- 14.23: two of the points meet: the one that is named later lies no further on, or inside the other's old part
 pub record Overlap (t ns : List ℕ) (ps : List Part) : Type 0 where
   pub i : ℕ
   pub j : ℕ
@@ -63,15 +65,15 @@ pub record Overlap (t ns : List ℕ) (ps : List Part) : Type 0 where
   pub meets : (partAt ps j .point ≤ partAt ps i .point)
       ⊎ ((partAt ps i .point < partAt ps j .point) × (partAt ps j .point < partAt ps i .point + part t ns (partAt ps i .point)))
 
--- so the test for 23 holds exactly where two of them meet
+-- 15.2: so the test for 23 holds exactly where two of them meet
 abbrev pub OverlapsExactly : Type 0
 OverlapsExactly = (t ns : List ℕ) (ps : List Part) → ((i : ℕ) → i < length ps → partAt ps i .point < length ns) → (overlaps t ns 0 ps ≡ true) ↔ Overlap t ns ps
 
--- a node is new or survives
+-- 7.10: a node is new or survives
 abbrev pub NewOrOld : Type 0
 NewOrOld = (qs : List Point) (m : ℕ) → isNew qs m ≡ not (isOld qs m)
 
--- the points, row by row: the first keeps its number, and those behind it shift by its growth
+-- 9.4: the points, row by row: the first keeps its number, and those behind it shift by its growth
 abbrev pub PointsShift : Type 0
 PointsShift = (t ns : List ℕ) (w from : ℕ) (p : Part) (ps : List Part) → judgeNodes t ns (w ∷ []) ≡ 0 → Row t ns from (p ∷ ps)
     → pointsRow t ns (p ∷ ps) ≡ record { node = p .point; count = length (p .nodes) } ∷ map (shift (part t ns (p .point)) (length (p .nodes))) (pointsRow t ns ps)

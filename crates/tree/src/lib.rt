@@ -1,11 +1,11 @@
 // Trees in preorder: the judgement 6 and 7, and where each subtree ends.
-use checking::judge_table;
 use refusal::Refusal;
 use refusal::Verdict;
 use table::child_count;
 use table::child_of;
 use table::left_of;
 use table::production_count;
+use table_judge::judge_table;
 ghost use mathlib.Core.Path.{_≡_};
 ghost use mathlib.Core.List.{[], _∷_};
 ghost use Prim.Native.Nat.{suc, _+_, _-_, _<_, _≤_};
@@ -13,10 +13,13 @@ ghost use lib.ListN.{length, take};
 ghost use Rattle.refusal.specs.Numbers.{verdictOf};
 ghost use Rattle.table.specs.Words.{productionCount, childCount, childrenFrom};
 ghost use Rattle.table.specs.Limits.{Limits};
-ghost use Rattle.tree.specs.Tree.{judgeNodes, spanEnd};
+ghost use Rattle.tree.specs.Tree.{nodesMost, judgeNodes, spanEnd};
 ghost use Rattle.tree.specs.Refusals.{JudgeTreeSays};
-ghost use Rattle.tree.specs.Says.{Says};
-ghost use Rattle.tree.specs.Spans.{Numbers, Ended, Spans};
+ghost use Rattle.tree.specs.Inner.Says.{Says};
+ghost use Rattle.tree.specs.Inner.Spans.{Numbers, Ended, Spans};
+
+// So many nodes a tree has at the most.
+pub const NODES: usize = 512;
 
 // Where a walk stands behind what it read, or what is wrong there.
 pub enum Walk {
@@ -49,13 +52,14 @@ pub struct Cuts {
     pub cuts: [Cut; 8],
 }
 
-fn wide(x: u8) -> usize
+// A production number as an index.
+pub fn index(x: u8) -> usize
     ensures { λ r. ⌜ (r ≡ x) × (r < 256) ⌝ }
 {
     x as usize
 }
 
-// Reads one subtree of `symbol` at `at`: a node and then its row of children.
+// Reads one subtree of `symbol` at `at`: a node, and behind it the row of its children.
 fn subtree(table: &[u64; 2657], productions: &[u8], at: usize, symbol: usize) -> Walk
     requires { ⌜ Limits (now table) ⌝ }
     requires { ⌜ at ≤ length (now productions) ⌝ }
@@ -64,7 +68,7 @@ fn subtree(table: &[u64; 2657], productions: &[u8], at: usize, symbol: usize) ->
     if productions.len() <= at {
         return Walk::Wrong(Refusal::Shape);
     }
-    let p = wide(productions[at]);
+    let p = index(productions[at]);
     if production_count(table) <= p {
         return Walk::Wrong(Refusal::Production);
     }
@@ -74,7 +78,7 @@ fn subtree(table: &[u64; 2657], productions: &[u8], at: usize, symbol: usize) ->
     row(table, productions, at + 1, p, 0)
 }
 
-// Reads the row of a production's children from child `child` on, each again a subtree. What is unread falls from call to call.
+// Reads the row of a production's children from child `child` on, each by the reading of a subtree. What is unread falls from call to call.
 fn row(table: &[u64; 2657], productions: &[u8], at: usize, production: usize, child: usize) -> Walk
     requires { ⌜ Limits (now table) ⌝ }
     requires { ⌜ at ≤ length (now productions) ⌝ }
@@ -102,7 +106,7 @@ pub fn judge_nodes(table: &[u64; 2657], productions: &[u8], symbol: usize) -> Ve
             if productions.len() <= next {
                 return Verdict::Sound;
             }
-            let over = wide(productions[next]);
+            let over = index(productions[next]);
             if production_count(table) <= over {
                 return Verdict::Refused(Refusal::Production);
             }
@@ -127,7 +131,7 @@ pub fn judge_tree(table: &[u64; 2657], productions: &[u8], owns: &[u64]) -> Verd
 {
     match judge_table(table) {
         Verdict::Sound => {
-            if 512 < productions.len() {
+            if NODES < productions.len() {
                 return Verdict::Refused(Refusal::Size);
             }
             if productions.len() != owns.len() {
@@ -142,12 +146,12 @@ pub fn judge_tree(table: &[u64; 2657], productions: &[u8], owns: &[u64]) -> Verd
 // The end of node `at`'s subtree, where `ends` has those of the nodes behind it: from child to child.
 fn end_of(table: &[u64; 2657], productions: &[u8], ends: &[u16], at: usize) -> usize
     requires { ⌜ at < length (now productions) ⌝ }
-    requires { ⌜ (length (now productions) ≤ 512) × (length (now productions) ≤ length (now ends)) ⌝ }
+    requires { ⌜ (length (now productions) ≤ nodesMost) × (length (now productions) ≤ length (now ends)) ⌝ }
     requires { ⌜ Numbers (now productions) ⌝ }
     requires { ⌜ Ended (now table) (now productions) (at + 1) (now ends) ⌝ }
     ensures { λ r. ⌜ r ≡ spanEnd (now (table .entry)) (now (productions .entry)) at ⌝ }
 {
-    let p = wide(productions[at]);
+    let p = index(productions[at]);
     let count = child_count(table, p);
     let mut next = at + 1;
     let mut child = 0;
@@ -163,7 +167,7 @@ fn end_of(table: &[u64; 2657], productions: &[u8], ends: &[u16], at: usize) -> u
 
 // Writes the end of each node's subtree, from the last node to the first: each node looks at its children alone.
 pub fn spans(table: &[u64; 2657], productions: &[u8], ends: &mut [u16])
-    requires { ⌜ (length (now productions) ≤ 512) × (length (now productions) ≤ length (now ends)) ⌝ }
+    requires { ⌜ (length (now productions) ≤ nodesMost) × (length (now productions) ≤ length (now ends)) ⌝ }
     requires { ⌜ Numbers (now productions) ⌝ }
     ensures { λ _. ⌜ Spans (now (table .entry)) (now (productions .entry)) (now (ends .entry)) (now (ends .exit)) ⌝ }
 {

@@ -2,15 +2,15 @@
 use mathlib.Core.Path.{_≡_, refl, sym}
 use mathlib.Core.Bool.{Bool, true, false, _||_, or-true, true≢false}
 use mathlib.Core.Logic.{_⊎_, _↔_, inl, inr, ⊎-elim}
-use mathlib.Core.List.{List, [], _∷_, map}
+use mathlib.Core.List.{List, [], _∷_}
 use Prim.Native.Nat.{ℕ, zero, suc, _+_, _≤_, _<_}
 use native.Mathlib.Omega.{arith}
 use lib.Dec.{ltb, leb, eqb}
 use lib.ListN.{length, getD}
 use borrow.Author.Tests.{lt-ltb, le-ltb, ltb-true, ltb-false, le-leb, lt-leb, leb-true, leb-false, eq-eqb, eqb-true, eqb-false}
-use Rattle.table.specs.First.{first}
+use Rattle.refusal.specs.Orders.{refusalBy}
 use Rattle.table.specs.Words.{leftOf}
-use Rattle.table.proofs.FirstLaws.{or-none}
+use Rattle.refusal.proofs.Orders.{or-none}
 use Rattle.tree.specs.Tree.{judgeTree}
 use Rattle.tree.specs.Replace.{part}
 use Rattle.tree.specs.Points.{Part, partAt, overlaps, Row, none, more}
@@ -18,8 +18,7 @@ use Rattle.tree.specs.PointLaws.{Overlap}
 use Rattle.tree.proofs.Points.{overlaps-exactly}
 use Rattle.circles.proofs.Lists.{or-parts}
 use Rattle.climb.proofs.Lists.{either, or-false-is}
-use Rattle.update.specs.Refusals.{firstRefusal, miscounted, missing, partRefusal, partsRefusal}
-use Rattle.update.specs.Refused.{Miscounted, Counted, Missing, Present, Separate}
+use Rattle.update.specs.Refusals.{miscounted, missing, partRefusal, partsOrder, partsRefusal, Miscounted, Counted, Missing, Present, Separate}
 use Rattle.update.proofs.Ready.{tree-equal, tree-sound}
 
 -- ---- their number
@@ -91,12 +90,12 @@ module _ (t ns : List ℕ) (ps : List Part) (p : Present (length ns) ps) where
 -- ---- parts that pass are a row
 
 pub tests-row : (t ns : List ℕ) (from : ℕ) (ps : List Part) → missing (length ns) ps ≡ false → overlaps t ns from ps ≡ false → partsRefusal t ns ps ≡ 0 → Row t ns from ps
-unfolding missing overlaps partsRefusal first
+unfolding missing overlaps partsRefusal refusalBy
 tests-row t ns from [] a b c = none
 tests-row t ns from (p ∷ ps) a b c =
     let d = or-false-is a in
     let e = or-false-is b in
-    let f = or-none (partRefusal t ns p) (firstRefusal (map (partRefusal t ns) ps)) c in
+    let f = or-none (partRefusal t ns p) (refusalBy (partsOrder t ns ps)) c in
     more (ltb-false (p .point) from (e .0))
     (record {
       inside = leb-false (length ns) (p .point) (d .0);
@@ -108,7 +107,7 @@ tests-row t ns from (p ∷ ps) a b c =
 -- and a row passes
 pub row-tests : (t ns : List ℕ) (from : ℕ) (ps : List Part) → Row t ns from ps
     → (missing (length ns) ps ≡ false) × (overlaps t ns from ps ≡ false) × (partsRefusal t ns ps ≡ 0)
-unfolding missing overlaps partsRefusal first judgeTree
+unfolding missing overlaps partsRefusal refusalBy judgeTree
 row-tests t ns from [] none = (refl, refl, refl)
 row-tests t ns from (p ∷ ps) (more l f g) =
     let i = row-tests t ns (p .point + part t ns (p .point)) ps g in (

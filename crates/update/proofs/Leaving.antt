@@ -11,19 +11,19 @@ use borrow.Author.Tests.{ltb-true}
 use Rattle.tree.specs.Tree.{judgeNodes, judgeTree}
 use Rattle.tree.specs.Points.{Part, pointsRow}
 use Rattle.tree.proofs.Points.{row-count}
-use Rattle.climb.specs.Circuit.{circleAt}
 use Rattle.climb.proofs.Lists.{either}
 use Rattle.update.specs.declared.Record.{Record}
 use Rattle.update.specs.declared.Open.the-variants.{Load, Replacement}
 use Rattle.update.specs.Records.{beyond}
 use Rattle.update.specs.Memories.{Memory, nodesOf}
 use Rattle.update.specs.Refusals.{loadRefusal, replaceRefusal, nodesLeft, pointsRefusal}
-use Rattle.update.specs.Steps.{roundNumber, fromOf, toOf, closedOf, roundRecord, Outcome, round, done, roundMade, doneMade, dueFrom, stepOf, continued, Ran, runOf}
+use Rattle.update.specs.Steps.{roundNumber, fromOf, toOf, closedOf, roundRecord, Outcome, round, done, roundMade, doneMade, dueFrom, stepOf, continued, RunMade, runOf}
 use Rattle.update.specs.Calls.{Said, Left, Opened, loadPoint, loadCall, replaceCall, pointsCall}
 use Rattle.update.specs.Within.{none, more, WithinLimits, StepWithin, RunWithin, AllOpenWithin}
 use Rattle.update.proofs.Within.{beyond-means, all-open, all-shut}
 use Rattle.update.proofs.Refusing.{all-exactly}
 use Rattle.update.proofs.Several.{one-refusal, one-point, accepted}
+use Rattle.circles.specs.Ranked.{circleAt}
 
 -- ---- steps and runs
 
@@ -56,7 +56,7 @@ number-within r i = omega arith
 
 pub step-within : StepWithin
 unfolding stepOf roundMade doneMade
-step-within S R before r s l h = ⊎-elim
+step-within S R earlier r s l h = ⊎-elim
     (λ (e : ltb i (length R) ≡ true). let q : i < length R = ltb-true i (length R) e in
     rw e (beyond-means (roundRecord r i (roundNumber r i) (length C) closed) .1
     (record-within r i (roundNumber r i) (length C) closed (beyond-means r .0 h) (omega arith) (number-within r i))))
@@ -64,26 +64,26 @@ step-within S R before r s l h = ⊎-elim
     (either (ltb i (length R)))
   where
     i : ℕ
-    i = dueFrom S R r before s
+    i = dueFrom S R r earlier s
 
     C : List ℕ
-    C = circleAt R (dueFrom S R r before s)
+    C = circleAt R (dueFrom S R r earlier s)
 
     closed : Bool
-    closed = closedOf S (circleAt R (dueFrom S R r before s)) (fromOf S (circleAt R (dueFrom S R r before s)) (roundNumber r (dueFrom S R r before s)) s)
-        (toOf S (circleAt R (dueFrom S R r before s)) (fromOf S (circleAt R (dueFrom S R r before s)) (roundNumber r (dueFrom S R r before s)) s))
+    closed = closedOf S (circleAt R (dueFrom S R r earlier s)) (fromOf S (circleAt R (dueFrom S R r earlier s)) (roundNumber r (dueFrom S R r earlier s)) s)
+        (toOf S (circleAt R (dueFrom S R r earlier s)) (fromOf S (circleAt R (dueFrom S R r earlier s)) (roundNumber r (dueFrom S R r earlier s)) s))
 
-continued-within : (o : Outcome) (r : Record) (s : List ℕ) (go : Record → List ℕ → Ran) → beyond r ≡ false → beyond (go r s .next) ≡ false → beyond (continued o r s go .next) ≡ false
+continued-within : (o : Outcome) (r : Record) (s : List ℕ) (go : Record → List ℕ → RunMade) → beyond r ≡ false → beyond (go r s .next) ≡ false → beyond (continued o r s go .next) ≡ false
 continued-within (round a k c d) r s go h g = g
 continued-within (done a c d) r s go h g = h
 
 pub run-within : RunWithin
 unfolding runOf
-run-within S R before zero r s l h = h
-run-within S R before (suc n) r s l h =
-    let m = stepOf S R r before s in
-    let w = step-within S R before r s l h in
-    continued-within (m .outcome) (m .next) (m .sets) (runOf S R before n) w (run-within S R before n (m .next) (m .sets) l w)
+run-within S R earlier zero r s l h = h
+run-within S R earlier (suc n) r s l h =
+    let m = stepOf S R r earlier s in
+    let w = step-within S R earlier r s l h in
+    continued-within (m .outcome) (m .next) (m .sets) (runOf S R earlier n) w (run-within S R earlier n (m .next) (m .sets) l w)
 
 -- ---- opened records
 
@@ -101,7 +101,7 @@ module _ (t : List ℕ) (m : Memory) (r : Record) where
   load-within : (ns owns : List ℕ) → loadRefusal t m r ns owns ≡ 0 → beyond (loadCall t m r ns owns .next) ≡ false
   unfolding loadCall
   load-within ns owns h =
-      let c = all-exactly t m r .load ns owns .by0 .0 h .1 .1 .1 .1 in
+      let c = all-exactly t m r .load ns owns .none .0 h .1 .1 .1 .1 in
       rw h (all-open Load (length ns) (loadPoint (length ns) ∷ []) .within (c .0) (omega arith) (omega arith)
       (more {q = loadPoint (length ns)} zero-le (some-node t ns owns 0 (c .1 .0)) (omega arith) none))
 

@@ -1,5 +1,5 @@
 pub mod Computed
-pub mod Checks
+pub mod Conditions
 pub mod Asking
 pub mod Refusing
 pub mod Several

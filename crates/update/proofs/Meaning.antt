@@ -1,6 +1,6 @@
--- The tests of a step mean what document 01 says. Assumes nothing.
+-- The tests of a step mean what chapters 10 and 11 say. Assumes nothing.
 use mathlib.Core.Path.{_≡_, refl, sym, ap}
-use mathlib.Core.Bool.{Bool, true, false, not, _&&_, _||_, true≢false, or-true}
+use mathlib.Core.Bool.{Bool, true, false, not, _&&_, true≢false, or-true}
 use mathlib.Core.Logic.{_⊎_, inl, inr, ⊎-elim}
 use mathlib.Core.List.{List, [], _∷_, map, List·Memᴰ·head, List·Memᴰ·tail}
 use Prim.Native.Nat.{ℕ, zero, suc, _+_, _≤_}
@@ -9,10 +9,9 @@ use lib.Dec.{eqb, ltb, leb}
 use lib.ListN.{length, getD}
 use borrow.Author.Tests.{eqb-true, eqb-false, eq-eqb, ne-eqb, ltb-true, lt-ltb, leb-true, le-leb, not-true}
 use Rattle.circles.specs.Graph.{Graph}
-use Rattle.circles.specs.Ranked.{member, keep, upFrom, circleOf, ranking, labelsOf, rankedBy, ranked}
+use Rattle.circles.specs.Ranked.{circleAt, member, keep, upFrom, circleOf, ranking, labelsOf, rankedBy, ranked}
 use Rattle.circles.proofs.Lists.{or-parts, bool-same, keep-same}
 use Rattle.climb.specs.System.{System}
-use Rattle.climb.specs.Circuit.{circleAt}
 use Rattle.climb.specs.Memory.{at}
 use Rattle.climb.proofs.Lists.{either, and-is}
 use Rattle.tree.specs.declared.Point.{Point}
@@ -73,15 +72,15 @@ at-every : (f : Point → Bool) (qs : List Point) → ((q : Point) → Among q q
 at-every f [] h = refl
 at-every f (p ∷ qs) h = rw (h p (List·Memᴰ·head refl), at-every f qs (λ q m. h q (List·Memᴰ·tail m)))
 
-module _ (S : System) (r : Record) (before sets : List ℕ) (x : ℕ) where
+module _ (S : System) (r : Record) (earlier sets : List ℕ) (x : ℕ) where
   abbrev counted : Bool
-  counted = S .declared x && survives r x && not (eqb (at sets x) (at before x))
+  counted = S .declared x && survives r x && not (eqb (at sets x) (at earlier x))
 
   outlives : (p : Point) → survivesAt p (nodeOf x) ≡ true → (nodeOf x ≤ p .node) ⊎ (p .node + p .count ≤ nodeOf x)
   unfolding survivesAt
   outlives p o = ⊎-elim (λ a. inl (leb-true (nodeOf x) (p .node) a)) (λ a. inr (leb-true (p .node + p .count) (nodeOf x) a)) (or-parts _ _ o)
 
-  counted-to : counted ≡ true → Changed S r before sets x
+  counted-to : counted ≡ true → Changed S r earlier sets x
   unfolding survives
   counted-to h =
       let p = and-is h in
@@ -89,7 +88,7 @@ module _ (S : System) (r : Record) (before sets : List ℕ) (x : ℕ) where
       record {
         declared = q .0;
         survives = λ p a. let o = every-at (λ p. survivesAt p (nodeOf x)) (pointsOf r) (q .1) p a in outlives p o;
-        differs = eqb-false (at sets x) (at before x) (not-true (eqb (at sets x) (at before x)) (p .1));
+        differs = eqb-false (at sets x) (at earlier x) (not-true (eqb (at sets x) (at earlier x)) (p .1));
       }
 
   stays-at : (p : Point) → (nodeOf x ≤ p .node) ⊎ (p .node + p .count ≤ nodeOf x) → survivesAt p (nodeOf x) ≡ true
@@ -101,17 +100,17 @@ module _ (S : System) (r : Record) (before sets : List ℕ) (x : ℕ) where
   unfolding survives
   stays h = at-every (λ p. survivesAt p (nodeOf x)) (pointsOf r) (λ p a. stays-at p (h p a))
 
-  counted-from : Changed S r before sets x → counted ≡ true
-  counted-from c = rw (c .declared, stays (c .survives), ne-eqb (at sets x) (at before x) (c .differs))
+  counted-from : Changed S r earlier sets x → counted ≡ true
+  counted-from c = rw (c .declared, stays (c .survives), ne-eqb (at sets x) (at earlier x) (c .differs))
 
 pub changed-exactly : ChangedExactly
 unfolding changedOf
-changed-exactly S r before sets test o h = rw o (ap length (keep-same (counted S r before sets) test (upFrom 0 (S .size))
-    (λ x k. bool-same (counted S r before sets x) (test x) (λ c. h x .1 (counted-to S r before sets x c)) (λ c. counted-from S r before sets x (h x .0 c)))))
+changed-exactly S r earlier sets test o h = rw o (ap length (keep-same (counted S r earlier sets) test (upFrom 0 (S .size))
+    (λ x k. bool-same (counted S r earlier sets x) (test x) (λ c. h x .1 (counted-to S r earlier sets x c)) (λ c. counted-from S r earlier sets x (h x .0 c)))))
 
 pub load-changes : LoadChanges
 unfolding changedOf
-load-changes S r before sets h = rw h
+load-changes S r earlier sets h = rw h
 
 -- ---- the least instance of a circle
 
@@ -145,4 +144,4 @@ first-is-least G i x h = first-of G (labelsOf G) (ranking (G .size) G (labelsOf 
 
 pub no-budget : NoBudget
 unfolding runOf
-no-budget S R before r s = refl
+no-budget S R earlier r s = refl

@@ -1,9 +1,9 @@
 -- What is known of an update just opened, and that it begins as the laws of one update ask. Assumes nothing.
-use mathlib.Core.Path.{_≡_, refl, sym}
+use mathlib.Core.Path.{_≡_, sym}
 use mathlib.Core.Bool.{true, false}
 use mathlib.Core.Logic.{⊎-elim}
 use mathlib.Core.List.{List, [], _∷_}
-use Prim.Native.Nat.{ℕ, zero, suc, _≤_}
+use Prim.Native.Nat.{ℕ, _≤_}
 use native.Mathlib.Nat.{le-trans}
 use native.Mathlib.Omega.{arith}
 use lib.Dec.{eqb}
@@ -12,12 +12,12 @@ use borrow.Author.Tests.{eqb-true}
 use Rattle.table.specs.Judge.{judgeTable}
 use Rattle.tree.specs.Tree.{judgeNodes, judgeTree}
 use Rattle.circles.specs.Ranked.{ranked}
-use Rattle.circles.specs.Laws as laws
+use Rattle.circles.specs.Laws.{Ordered}
 use Rattle.circles.specs.Laws.{declaredCount}
 use Rattle.circles.proofs.Sequence.{ordered}
 use Rattle.climb.specs.System.{graphOf}
 use Rattle.climb.specs.Inside.{Small}
-use Rattle.climb.specs.Circuit.{sumTo, circleAt, Ranked, Few, LawfulCircles, Kept}
+use Rattle.climb.specs.Circuit.{Ranked, Few, LawfulCircles, Kept}
 use Rattle.climb.specs.ByRank.{LeastByRank}
 use Rattle.climb.specs.Restrict.{Solved}
 use Rattle.climb.specs.Waived.{LawfulBut}
@@ -55,11 +55,6 @@ tree-sound t ns owns s h = ⊎-elim
 abbrev pub circles : List ℕ → List ℕ → List ℕ → List (List ℕ)
 circles t ns owns = ranked (graphOf (system t ns owns))
 
-sums-same : (f : ℕ → ℕ) (n : ℕ) → sumTo f n ≡ laws.sumTo f n
-unfolding sumTo
-sums-same f zero = refl
-sums-same f (suc n) = rw (sums-same f n)
-
 -- a sound table and a sound tree without a waiver inside a circle, with their words
 pub record Sound (t ns owns : List ℕ) : Type 0 where
   pub words : Words t
@@ -80,7 +75,7 @@ module _ {t ns owns : List ℕ} (q : Sound t ns owns) where
   unfolding declaredCount
   counted = few-instances t ns (q .table) (tree-sound t ns owns 0 (q .tree)) (q .few)
 
-  sequence : laws.Ordered (graphOf (system t ns owns)) (circles t ns owns)
+  sequence : Ordered (graphOf (system t ns owns)) (circles t ns owns)
   sequence = ordered (graphOf (system t ns owns)) (record { bound = but-waived .bound; closed = but-waived .closed }) (omega (arith, q .few))
 
   pub in-rank : Ranked (system t ns owns) (circles t ns owns)
@@ -89,7 +84,7 @@ module _ {t ns owns : List ℕ} (q : Sound t ns owns) where
   pub few-circles : Few (circles t ns owns)
   few-circles = record {
     count = le-trans (sequence .count) counted;
-    total = omega (arith, sums-same (λ i. length (circleAt (circles t ns owns) i)) (length (circles t ns owns)), sequence .total, counted);
+    total = omega (arith, sequence .total, counted);
   }
 
 -- an update just opened: sets and before values are the same
@@ -104,7 +99,7 @@ pub record Ready (t ns owns : List ℕ) (r : Record) (m : Memory) : Type 0 where
   pub nodes : take (length ns) (m .productions) ≡ ns
   pub owns′ : take (length ns) (m .owns) ≡ owns
   pub behind : (i : ℕ) → length ns ≤ i → (getD (m .productions) i 0 ≡ 0) × (getD (m .owns) i 0 ≡ 0)
-  pub before : at (m .before) ≡ at (m .sets)
+  pub earlier : at (m .earlier) ≡ at (m .sets)
   pub small : Small (at (m .sets))
   pub empty : (x : ℕ) → declared t ns x ≡ false → at (m .sets) x ≡ 0
   pub kept : Kept (system t ns owns) (circles t ns owns) (sownOf r) (at (m .sets))
@@ -129,7 +124,7 @@ pub record Settled (t ns owns : List ℕ) (r : Record) (m : Memory) : Type 0 whe
   pub behind : (i : ℕ) → length ns ≤ i → (getD (m .productions) i 0 ≡ 0) × (getD (m .owns) i 0 ≡ 0)
   pub small : Small (at (m .sets))
   pub empty : (x : ℕ) → declared t ns x ≡ false → at (m .sets) x ≡ 0
-  pub emptied : (x : ℕ) → declared t ns x ≡ false → at (m .before) x ≡ 0
+  pub emptied : (x : ℕ) → declared t ns x ≡ false → at (m .earlier) x ≡ 0
   pub least : LeastByRank (system t ns owns) (circles t ns owns) (at (m .sets))
 
 pub solved : {t ns owns : List ℕ} {r : Record} {m : Memory} → Settled t ns owns r m → Solved (system t ns owns) (circles t ns owns) (at (m .sets))

@@ -1,252 +1,168 @@
--- Every call gives each of its numbers exactly when document 01 says. Assumes nothing.
-use mathlib.Core.Path.{_≡_, refl, sym, ap, _∙_}
-use mathlib.Core.List.{List, [], _∷_, _++_, List·Memᴰ·head, List·Memᴰ·tail, List·Memᴰ·not-nil}
-use Prim.Native.Nat.{ℕ, zero, suc, _<_}
+-- Every call gives each of its numbers exactly when its check holds and none before it: its order is right. Assumes nothing.
+use mathlib.Core.Path.{_≡_, refl}
+use mathlib.Core.List.{List, [], _∷_, _++_}
+use Prim.Native.Nat.{ℕ, zero, suc, _≤_, _<_}
 use native.Mathlib.Omega.{arith}
-use mathlib.Core.Bool.{true, false}
-use mathlib.Core.Logic.{_⊎_, _↔_, inl, inr, ⊎-elim}
+use mathlib.Core.Bool.{false}
+use mathlib.Core.Logic.{_⊎_, inl}
 use lib.ListN.{length, getD}
 use lib.Seq.{length-take-le}
-use Rattle.table.specs.First.{first}
+use Rattle.refusal.specs.Orders.{orElse, unless as unlessCheck, above, refusalBy, Right}
+use Rattle.refusal.proofs.Orders.{agree-meant, agree-test, agree-unless, agree-above, agree-outside, agree-judged, order-gives, right-joined}
 use Rattle.table.specs.Words.{leftOf}
-use Rattle.table.specs.Judge.{judgeTable}
+use Rattle.table.proofs.Refused.{agree-table}
 use Rattle.tree.specs.Points.{Part, nodesRow, overlaps}
-use Rattle.tree.specs.PointLaws.{Overlap}
-use Rattle.tree.proofs.Points.{all-rows}
-use Rattle.table.proofs.FirstLaws.{or-left, or-right, or-none}
 use Rattle.tree.specs.Tree.{judgeNodes, judgeTree}
+use Rattle.tree.proofs.Points.{all-rows}
+use Rattle.tree.proofs.Refused.{six-or-seven, agree-tree}
 use Rattle.tree.proofs.Replace.{replacement}
 use Rattle.climb.specs.Memory.{at}
 use Rattle.wire.specs.Instances.{declared}
 use Rattle.wire.specs.Replaced.{nodesAfter}
 use Rattle.wire.specs.Waivers.{waives, WaivesExactly}
 use Rattle.wire.proofs.Waivers.{every-tree-waives}
-use Rattle.circles.specs.Graph.{_∈_}
 use Rattle.update.specs.declared.Record.{Record}
-use Rattle.update.specs.Records.{isOpen, beyond}
+use Rattle.update.specs.Records.{nodesMost, isOpen, beyond}
 use Rattle.update.specs.Memories.{Memory, nodesOf, ownsOf}
-use Rattle.update.specs.Refusals.{firstRefusal, short, heldRefusal, loadRefusal, passes, nodesThen, replaceRefusal, miscounted, missing, nodesLeft, partsRefusal, pointsRefusal, stepRefusal, readRefusal, dumpRefusal}
-use Rattle.update.specs.Refused.{LoadGives, ReplaceGives, Present, Separate, PointsGives, StepGives, ReadGives, DumpGives, AllGivenExactly, Refuses, RefusesExactly, OneRefusal, NoneRefuses, Leaves, ReadLeaves, AllLeave, replacedNodes}
-use Rattle.update.specs.Calls.{refused, said, unless as unless′, is-open, loadCall, replaceCall, pointsCall, stepCall, runCall, unlessRead, readCall}
+use Rattle.update.specs.Refusals.{short, heldRefusal, groundOrder, busyCheck, heldOrder, waiverOrder, newOrder, loadOrder, loadRefusal, lookOrder, replacedNodes, nodesThen, partOrder, replaceOrder, replaceRefusal, miscounted, missing, Present, Separate, nodesLeft, partRefusal, partsOrder, partsRefusal, askedOrder, aimOrder, pointCheck, rowOrder, pointsOrder, pointsRefusal, goingOrder, stepOrder, stepRefusal, readOrder, readRefusal, dumpOrder, dumpRefusal}
+use Rattle.update.specs.Refused.{AllGivenExactly, Leaves, ReadLeaves, AllLeave}
+use Rattle.update.specs.Calls.{refused, said, unless, is-open, loadCall, replaceCall, pointsCall, stepCall, runCall, unlessRead, readCall}
 use Rattle.update.proofs.Within.{short-means, beyond-means}
 use Rattle.update.proofs.Ready.{tree-sound}
 use Rattle.update.proofs.Asking.{counted-means, miscounted-means, missing-means, present-means, overlap-means, apart-means, tests-row}
-use Rattle.update.proofs.Checks.{Check, if, unless, above, outside, table, tree, parts, number, table-number, tree-number, nothing, among}
 
--- ---- conditions that say the same
+-- ---- the parts that orders share
 
-then : {A B C : Type 0} → A ↔ B → B ↔ C → A ↔ C
-then f g = (λ a. g .0 (f .0 a), λ c. f .1 (g .1 c))
+-- 21 means what it says where the tree is sound
+waiver-right : (t ns : List ℕ) → WaivesExactly t ns → Right (waiverOrder t ns)
+waiver-right t ns w = (agree-meant 21 (waives t ns) (omega arith) (w .some) (w .none), λ s. tt)
 
--- where P holds
-under : {P A B : Type 0} → (P → A ↔ B) → (P × A) ↔ (P × B)
-under f = (λ h. (h .0, f (h .0) .0 (h .1)), λ h. (h .0, f (h .0) .1 (h .1)))
+pub held-right : (t held owns : List ℕ) (r : Record) → Right (heldOrder t held owns r)
+held-right t held owns r = (agree-unless 16 (r .held) (omega arith), λ h. (agree-tree t _ _ 0, λ s. tt))
 
-same : {A : Type 0} → A ↔ A
-same = (λ a. a, λ a. a)
+pub going-right : (t held owns : List ℕ) (r : Record) → Right (goingOrder t held owns r)
+going-right t held owns r = right-joined (heldOrder t held owns r) (unlessCheck 17 (isOpen (r .«open»)) ∷ []) (held-right t held owns r) (λ h. (agree-unless 17 (isOpen (r .«open»)) (omega arith), λ s. tt))
 
--- the first part says the same, and the others where it holds
-both : {A A′ B B′ : Type 0} → A ↔ A′ → (A → B ↔ B′) → (A × B) ↔ (A′ × B′)
-both e f = (λ h. (e .0 (h .0), f (h .0) .0 (h .1)), λ h. let a = e .1 (h .0) in (a, f a .1 (h .1)))
+pub new-right : (t : List ℕ) (r : Record) (ns owns : List ℕ) → Right (newOrder t r ns owns)
+new-right t r ns owns = (agree-test 10 (isOpen (r .«open»)) (omega arith), λ o. (agree-above 8 nodesMost (length ns) (omega arith), λ f. (agree-tree t ns owns 0, λ s. tt)))
 
--- one of two
-or : {A B B′ : Type 0} → B ↔ B′ → (A ⊎ B) ↔ (A ⊎ B′)
-or e = (⊎-elim inl (λ b. inr (e .0 b)), ⊎-elim inl (λ b. inr (e .1 b)))
+pub asked-right : (r : Record) (ps : List Part) → Right (askedOrder r ps)
+asked-right r ps = (agree-test 10 (isOpen (r .«open»)) (omega arith), λ o. (agree-meant 22 (miscounted ps) (omega arith) (miscounted-means ps) (counted-means ps), λ s. tt))
+
+-- the parts' number, 6 or 7
+pub parts-right : (t ns : List ℕ) (ps : List Part) → Right (partsOrder t ns ps)
+parts-right t ns [] = tt
+parts-right t ns (p ∷ ps) = (agree-tree t (p .nodes) (p .owns) (leftOf t (getD ns (p .point) 0)), λ s. parts-right t ns ps)
+
+abbrev OfTree : ℕ → Type 0
+OfTree n = (n ≡ 0) ⊎ ((6 ≤ n) × (n ≤ 7))
+
+parts-number : (t ns : List ℕ) (ps : List Part) → OfTree (partsRefusal t ns ps)
+unfolding partsRefusal refusalBy
+parts-number t ns [] = inl refl
+parts-number t ns (p ∷ ps) = go (partRefusal t ns p) (refusalBy (partsOrder t ns ps)) (six-or-seven t (p .nodes) (p .owns) (leftOf t (getD ns (p .point) 0))) (parts-number t ns ps)
+  where
+    go : (n k : ℕ) → OfTree n → OfTree k → OfTree (orElse n k)
+    go zero k h i = i
+    go (suc n) k h i = h
+
+-- 23 means what it says where the points are nodes of the tree
+pub row-right : (t ns : List ℕ) (left : ℕ) (ps : List Part) → Present (length ns) ps → Right (rowOrder t ns left ps)
+row-right t ns left ps i = (
+  agree-meant 23 (overlaps t ns 0 ps) (omega arith) (overlap-means t ns ps i) (apart-means t ns ps i),
+  λ a.
+      (agree-above 8 nodesMost left (omega arith), λ f. (agree-judged 6 7 (partsRefusal t ns ps) (parts-number t ns ps), λ s. tt)),
+)
 
 -- ---- call by call
 
 module _ (t : List ℕ) (m : Memory) (r : Record) where
+  abbrev ns : List ℕ
+  ns = nodesOf m (r .nodes)
+
+  pub ground-right : Right (groundOrder t m r)
+  ground-right = (agree-test 15 (short m) (omega arith), λ s. (agree-table t, λ g. (agree-test 11 (beyond r) (omega arith), λ b. tt)))
+
+  pub look-right : Right (lookOrder t m r)
+  look-right = right-joined (groundOrder t m r) (busyCheck r ∷ heldOrder t (m .productions) (m .owns) r) ground-right (λ g. (agree-test 10 (isOpen (r .«open»)) (omega arith), λ o. held-right t (m .productions) (m .owns) r))
+
+  pub aim-right : (ps : List Part) → Right (aimOrder t m r ps)
+  aim-right ps =
+      right-joined (groundOrder t m r) (askedOrder r ps ++ heldOrder t (m .productions) (m .owns) r) ground-right (λ g.
+      right-joined (askedOrder r ps) (heldOrder t (m .productions) (m .owns) r) (asked-right r ps) (λ a. held-right t (m .productions) (m .owns) r))
+
   -- the held tree has the nodes that the record says
-  held-long : short m ≡ false → beyond r ≡ false → length (nodesOf m (r .nodes)) ≡ r .nodes
+  held-long : short m ≡ false → beyond r ≡ false → length ns ≡ r .nodes
   held-long s b = length-take-le (r .nodes) (m .productions) (omega (arith, short-means m .0 s .productions, beyond-means r .0 b .nodes))
 
   -- the tree that a replacement would leave is sound
   then-sound : (point : ℕ) (new newOwns : List ℕ) → short m ≡ false → beyond r ≡ false → heldRefusal t m r ≡ 0 → point < r .nodes
-      → judgeTree t new newOwns (leftOf t (getD (nodesOf m (r .nodes)) point 0)) ≡ 0 → judgeNodes t (nodesAfter t (nodesOf m (r .nodes)) new point) (0 ∷ []) ≡ 0
+      → judgeTree t new newOwns (leftOf t (getD ns point 0)) ≡ 0 → judgeNodes t (nodesAfter t ns new point) (0 ∷ []) ≡ 0
   then-sound point new newOwns s b h i f =
-      replacement t (nodesOf m (r .nodes)) new 0 point (tree-sound t (nodesOf m (r .nodes)) (ownsOf m (r .nodes)) 0 h) (omega (arith, i, held-long s b))
-      (tree-sound t new newOwns (leftOf t (getD (nodesOf m (r .nodes)) point 0)) f) .sound
+      replacement t ns new 0 point (tree-sound t ns (ownsOf m (r .nodes)) 0 h) (omega (arith, i, held-long s b))
+      (tree-sound t new newOwns (leftOf t (getD ns point 0)) f) .sound
 
   -- and so is the tree that a row of parts would leave
-  row-sound : (ps : List Part) → short m ≡ false → beyond r ≡ false → heldRefusal t m r ≡ 0 → missing (r .nodes) ps ≡ false → overlaps t (nodesOf m (r .nodes)) 0 ps ≡ false
-      → partsRefusal t (nodesOf m (r .nodes)) ps ≡ 0 → judgeNodes t (nodesRow t (nodesOf m (r .nodes)) ps) (0 ∷ []) ≡ 0
-  row-sound ps s b h i o f =
-      all-rows t (nodesOf m (r .nodes)) 0 0 ps (tree-sound t (nodesOf m (r .nodes)) (ownsOf m (r .nodes)) 0 h)
-      (tests-row t (nodesOf m (r .nodes)) 0 ps (rw (held-long s b) i) o f) .sound
+  row-sound : (ps : List Part) → heldRefusal t m r ≡ 0 → Present (length ns) ps → Separate t ns ps → partsRefusal t ns ps ≡ 0 → judgeNodes t (nodesRow t ns ps) (0 ∷ []) ≡ 0
+  row-sound ps h i o f =
+      all-rows t ns 0 0 ps (tree-sound t ns (ownsOf m (r .nodes)) 0 h)
+      (tests-row t ns 0 ps (present-means (length ns) ps .1 i) (apart-means t ns ps i .1 o) f) .sound
 
-  -- the points' tests, where the memory and the record pass
-  module _ (ps : List Part) (s : short m ≡ false) (b : beyond r ≡ false) where
-    there : (missing (r .nodes) ps ≡ false) ↔ Present (r .nodes) ps
-    there = present-means (r .nodes) ps
+  load-right : (new owns : List ℕ) → Right (loadOrder t m r new owns)
+  load-right new owns =
+      right-joined (groundOrder t m r) (newOrder t r new owns ++ waiverOrder t new) ground-right (λ g.
+      right-joined (newOrder t r new owns) (waiverOrder t new) (new-right t r new owns) (λ n.
+      waiver-right t new (every-tree-waives t new (g .1 .0) (tree-sound t new owns 0 (n .1 .1)))))
 
-    meets : missing (r .nodes) ps ≡ false → (overlaps t (nodesOf m (r .nodes)) 0 ps ≡ true) ↔ Overlap t (nodesOf m (r .nodes)) ps
-    meets i = overlap-means t (nodesOf m (r .nodes)) ps (rw (held-long s b) (there .0 i))
+  replace-right : (point : ℕ) (new newOwns : List ℕ) → Right (replaceOrder t m r point new newOwns)
+  replace-right point new newOwns =
+      right-joined (lookOrder t m r) (partOrder t m r point new newOwns ++ waiverOrder t (nodesThen t m r point new)) look-right (λ k. (
+        agree-outside 9 (r .nodes) point (omega arith),
+        λ i. (
+          agree-above 8 nodesMost (replacedNodes t m r point new) (omega arith),
+          λ f. (
+            agree-tree t new newOwns (leftOf t (getD ns point 0)),
+            λ n.
+                waiver-right t (nodesThen t m r point new)
+                (every-tree-waives t (nodesThen t m r point new) (k .1 .0) (then-sound point new newOwns (k .0) (k .1 .1 .0) (k .1 .1 .1 .1 .1) i n)),
+          ),
+        ),
+      ))
 
-    apart : missing (r .nodes) ps ≡ false → (overlaps t (nodesOf m (r .nodes)) 0 ps ≡ false) ↔ Separate t (nodesOf m (r .nodes)) ps
-    apart i = apart-means t (nodesOf m (r .nodes)) ps (rw (held-long s b) (there .0 i))
+  points-right : (ps : List Part) → Right (pointsOrder t m r ps)
+  points-right ps =
+      right-joined (aimOrder t m r ps) (pointCheck (r .nodes) ps ∷ (rowOrder t ns (nodesLeft t m r ps) ps ++ waiverOrder t (nodesRow t ns ps))) (aim-right ps) (λ k. (
+        agree-meant 9 (missing (r .nodes) ps) (omega arith) (missing-means (r .nodes) ps) (present-means (r .nodes) ps),
+        λ i.
+            let there : Present (length ns) ps = rw (held-long (k .0) (k .1 .1 .0)) i in
+            right-joined (rowOrder t ns (nodesLeft t m r ps) ps) (waiverOrder t (nodesRow t ns ps)) (row-right t ns (nodesLeft t m r ps) ps there) (λ w.
+            waiver-right t (nodesRow t ns ps) (every-tree-waives t (nodesRow t ns ps) (k .1 .0) (row-sound ps (k .1 .1 .1 .1 .1 .1) there (w .0) (w .1 .1)))),
+      ))
 
-    waiver : judgeTable t ≡ 0 → heldRefusal t m r ≡ 0 → missing (r .nodes) ps ≡ false → overlaps t (nodesOf m (r .nodes)) 0 ps ≡ false
-        → partsRefusal t (nodesOf m (r .nodes)) ps ≡ 0 → WaivesExactly t (nodesRow t (nodesOf m (r .nodes)) ps)
-    waiver g h i o f = every-tree-waives t (nodesRow t (nodesOf m (r .nodes)) ps) g (row-sound ps s b h i o f)
+  pub step-right : Right (stepOrder t m r)
+  step-right = right-joined (groundOrder t m r) (goingOrder t (m .productions) (m .owns) r) ground-right (λ g. going-right t (m .productions) (m .owns) r)
 
-  -- the held tree's check
-  abbrev held : Check
-  held = tree t (nodesOf m (r .nodes)) (ownsOf m (r .nodes)) 0
+  read-right : (x : ℕ) → Right (readOrder t m r x)
+  read-right x = right-joined (lookOrder t m r) (unlessCheck 12 (declared t ns x) ∷ []) look-right (λ k. (agree-unless 12 (declared t ns x) (omega arith), λ s. tt))
 
-  abbrev loads : List ℕ → List ℕ → List Check
-  loads ns owns = if (short m) 15 ∷ table t ∷ if (beyond r) 11 ∷ if (isOpen (r .«open»)) 10 ∷ above 512 (length ns) 8 ∷ tree t ns owns 0 ∷ if (waives t ns) 21 ∷ []
-
-  abbrev replaces : ℕ → List ℕ → List ℕ → List Check
-  replaces point new newOwns = if (short m) 15 ∷ table t ∷ if (beyond r) 11 ∷ if (isOpen (r .«open»)) 10 ∷ unless (r .held) 16 ∷ held
-      ∷ outside (r .nodes) point 9 ∷ above 512 (replacedNodes t m r point new) 8 ∷ tree t new newOwns (leftOf t (getD (nodesOf m (r .nodes)) point 0))
-      ∷ if (waives t (nodesThen t m r point new)) 21 ∷ []
-
-  abbrev several : List Part → List Check
-  several ps = if (short m) 15 ∷ table t ∷ if (beyond r) 11 ∷ if (isOpen (r .«open»)) 10 ∷ if (miscounted ps) 22 ∷ unless (r .held) 16 ∷ held
-      ∷ if (missing (r .nodes) ps) 9 ∷ if (overlaps t (nodesOf m (r .nodes)) 0 ps) 23 ∷ above 512 (nodesLeft t m r ps) 8 ∷ parts t (nodesOf m (r .nodes)) ps
-      ∷ if (waives t (nodesRow t (nodesOf m (r .nodes)) ps)) 21 ∷ []
-
-  abbrev steps : List Check
-  steps = if (short m) 15 ∷ table t ∷ if (beyond r) 11 ∷ unless (r .held) 16 ∷ held ∷ unless (isOpen (r .«open»)) 17 ∷ []
-
-  abbrev looks : Check → List Check
-  looks last = if (short m) 15 ∷ table t ∷ if (beyond r) 11 ∷ if (isOpen (r .«open»)) 10 ∷ unless (r .held) 16 ∷ held ∷ last ∷ []
-
-  load-exactly : (ns owns : List ℕ) → LoadGives t m r ns owns (loadRefusal t m r ns owns)
-  unfolding loadRefusal
-  load-exactly ns owns = let l = loads ns owns in record {
-    by15 = number l refl 15 refl;
-    early = record { by1to5 = table-number l refl; by11 = number l refl 11 refl };
-    by10 = number l refl 10 refl;
-    by8 = number l refl 8 refl;
-    by6or7 = tree-number l refl;
-    by21 = then (number l refl 21 refl)
-        (under (λ s. under (λ g. under (λ b. under (λ o. under (λ f. under (λ e. every-tree-waives t ns g (tree-sound t ns owns 0 e) .some)))))));
-    by0 = then (nothing l refl)
-        (under (λ s. under (λ g. under (λ b. under (λ o. under (λ f. under (λ e. every-tree-waives t ns g (tree-sound t ns owns 0 e) .none)))))));
-    among = among l;
-  }
-
-  replace-exactly : (point : ℕ) (new newOwns : List ℕ) → ReplaceGives t m r point new newOwns (replaceRefusal t m r point new newOwns)
-  unfolding replaceRefusal passes
-  replace-exactly point new newOwns = let l = replaces point new newOwns in record {
-    by15 = number l refl 15 refl;
-    early = record { by1to5 = table-number l refl; by11 = number l refl 11 refl };
-    by10 = number l refl 10 refl;
-    by16 = number l refl 16 refl;
-    by6or7 = tree-number l refl;
-    by9 = number l refl 9 refl;
-    by8 = number l refl 8 refl;
-    by21 = then (number l refl 21 refl)
-        (under (λ s. under (λ g. under (λ b. under (λ o. under (λ h. under (λ e. under (λ i. under (λ f. under (λ n.
-        every-tree-waives t (nodesAfter t (nodesOf m (r .nodes)) new point) g (then-sound point new newOwns s b e i n) .some))))))))));
-    by0 = then (nothing l refl)
-        (under (λ s. under (λ g. under (λ b. under (λ o. under (λ h. under (λ e. under (λ i. under (λ f. under (λ n.
-        every-tree-waives t (nodesAfter t (nodesOf m (r .nodes)) new point) g (then-sound point new newOwns s b e i n) .none))))))))));
-    among = among l;
-  }
-
-  points-exactly : (ps : List Part) → PointsGives t m r ps (pointsRefusal t m r ps)
-  unfolding pointsRefusal
-  points-exactly ps = let l = several ps in record {
-    by15 = number l refl 15 refl;
-    early = record { by1to5 = table-number l refl; by11 = number l refl 11 refl };
-    by10 = number l refl 10 refl;
-    by22 = then (number l refl 22 refl) (under (λ s. under (λ g. under (λ b. under (λ o. miscounted-means ps)))));
-    by16 = then (number l refl 16 refl) (under (λ s. under (λ g. under (λ b. under (λ o. both (counted-means ps) (λ c. same))))));
-    by6or7 = λ n x y. then (tree-number l refl n x y) (under (λ s. under (λ g. under (λ b. under (λ o. both (counted-means ps) (λ c. under (λ h. or (under (λ e.
-        both (there ps s b) (λ i. both (apart ps s b i) (λ p. same)))))))))));
-    by9 = then (number l refl 9 refl) (under (λ s. under (λ g. under (λ b. under (λ o. both (counted-means ps) (λ c. under (λ h. under (λ e. missing-means (r .nodes) ps))))))));
-    by23 = then (number l refl 23 refl) (under (λ s. under (λ g. under (λ b. under (λ o. both (counted-means ps) (λ c. under (λ h. under (λ e.
-        both (there ps s b) (meets ps s b)))))))));
-    by8 = then (number l refl 8 refl) (under (λ s. under (λ g. under (λ b. under (λ o. both (counted-means ps) (λ c. under (λ h. under (λ e.
-        both (there ps s b) (λ i. both (apart ps s b i) (λ p. same))))))))));
-    by21 = then (number l refl 21 refl) (under (λ s. under (λ g. under (λ b. under (λ o. both (counted-means ps) (λ c. under (λ h. under (λ e.
-        both (there ps s b) (λ i. both (apart ps s b i) (λ p. under (λ f. under (λ n. waiver ps s b g e i p n .some))))))))))));
-    by0 = then (nothing l refl) (under (λ s. under (λ g. under (λ b. under (λ o. both (counted-means ps) (λ c. under (λ h. under (λ e.
-        both (there ps s b) (λ i. both (apart ps s b i) (λ p. under (λ f. under (λ n. waiver ps s b g e i p n .none))))))))))));
-    among = among l;
-  }
-
-  step-exactly : StepGives t m r (stepRefusal t m r)
-  unfolding stepRefusal
-  step-exactly = let l = steps in record {
-    by15 = number l refl 15 refl;
-    early = record { by1to5 = table-number l refl; by11 = number l refl 11 refl };
-    by16 = number l refl 16 refl;
-    by6or7 = tree-number l refl;
-    by17 = number l refl 17 refl;
-    by0 = nothing l refl;
-    among = among l;
-  }
-
-  read-exactly : (x : ℕ) → ReadGives t m r x (readRefusal t m r x)
-  unfolding readRefusal
-  read-exactly x = let l = looks (unless (declared t (nodesOf m (r .nodes)) x) 12) in record {
-    by15 = number l refl 15 refl;
-    look = record { early = record { by1to5 = table-number l refl; by11 = number l refl 11 refl }; by10 = number l refl 10 refl; by16 = number l refl 16 refl; by6or7 = tree-number l refl };
-    by12 = number l refl 12 refl;
-    by0 = nothing l refl;
-    among = among l;
-  }
-
-  dump-exactly : (room wanted : ℕ) → DumpGives t m r room wanted (dumpRefusal t m r room wanted)
-  unfolding dumpRefusal
-  dump-exactly room wanted = let l = looks (above room wanted 15) in record {
-    by15 = number l refl 15 refl;
-    look = record { early = record { by1to5 = table-number l refl; by11 = number l refl 11 refl }; by10 = number l refl 10 refl; by16 = number l refl 16 refl; by6or7 = tree-number l refl };
-    by0 = nothing l refl;
-    among = among l;
-  }
+  dump-right : (room wanted : ℕ) → Right (dumpOrder t m r room wanted)
+  dump-right room wanted = right-joined (lookOrder t m r) (above 15 room wanted ∷ []) look-right (λ k. (agree-above 15 room wanted (omega arith), λ s. tt))
 
 pub all-exactly : AllGivenExactly
-all-exactly t m r = record { load = load-exactly t m r; replace = replace-exactly t m r; points = points-exactly t m r; step = step-exactly t m r; read = read-exactly t m r; dump = dump-exactly t m r }
-
--- ---- any list of numbers
-
-refuses-to : (l : List ℕ) (n : ℕ) → 0 < n → firstRefusal l ≡ n → Refuses l n
-unfolding first
-refuses-to [] n z h = absurd (omega arith)
-refuses-to (zero ∷ l) n z h =
-    let f = refuses-to l n z h in
-    record { before = 0 ∷ f .before; behind = f .behind; order = ap (λ (k : List ℕ). 0 ∷ k) (f .order); earlier = earlier f; some = z }
-  where
-    earlier : (f : Refuses l n) → (m : ℕ) → m ∈ (0 ∷ f .before) → m ≡ 0
-    earlier f m (List·Memᴰ·head p) = p
-    earlier f m (List·Memᴰ·tail i) = f .earlier m i
-refuses-to (suc a ∷ l) n z h = record { before = []; behind = l; order = ap (λ (k : ℕ). k ∷ l) h; earlier = λ m i. absurd (List·Memᴰ·not-nil i); some = z }
-
-first-behind : (before behind : List ℕ) (n : ℕ) → 0 < n → ((m : ℕ) → m ∈ before → m ≡ 0) → firstRefusal (before ++ (n ∷ behind)) ≡ n
-unfolding first
-first-behind [] behind n z e = or-left n (firstRefusal behind) z
-first-behind (a ∷ before) behind n z e = or-right a (firstRefusal (before ++ (n ∷ behind))) (e a (List·Memᴰ·head refl)) ∙ first-behind before behind n z (λ m i. e m (List·Memᴰ·tail i))
-
-refuses-from : (l : List ℕ) (n : ℕ) → Refuses l n → firstRefusal l ≡ n
-refuses-from l n f = ap firstRefusal (f .order) ∙ first-behind (f .before) (f .behind) n (f .some) (f .earlier)
-
-pub refuses-exactly : RefusesExactly
-refuses-exactly l n z = (refuses-to l n z, refuses-from l n)
-
-pub one-refusal : OneRefusal
-one-refusal l m n f g = sym (refuses-from l m f) ∙ refuses-from l n g
-
-all-none : (l : List ℕ) → firstRefusal l ≡ 0 → (m : ℕ) → m ∈ l → m ≡ 0
-unfolding first
-all-none (a ∷ l) h m (List·Memᴰ·head p) = p ∙ or-none a (firstRefusal l) h .0
-all-none (a ∷ l) h m (List·Memᴰ·tail i) = all-none l (or-none a (firstRefusal l) h .1) m i
-
-none-all : (l : List ℕ) → ((m : ℕ) → m ∈ l → m ≡ 0) → firstRefusal l ≡ 0
-unfolding first
-none-all [] h = refl
-none-all (a ∷ l) h = or-right a (firstRefusal l) (h a (List·Memᴰ·head refl)) ∙ none-all l (λ m i. h m (List·Memᴰ·tail i))
-
-pub none-refuses : NoneRefuses
-none-refuses l = (all-none l, none-all l)
+unfolding loadRefusal replaceRefusal pointsRefusal stepRefusal readRefusal dumpRefusal
+all-exactly t m r = record {
+  load = λ ns owns. order-gives (loadOrder t m r ns owns) (load-right t m r ns owns);
+  replace = λ point new newOwns. order-gives (replaceOrder t m r point new newOwns) (replace-right t m r point new newOwns);
+  points = λ ps. order-gives (pointsOrder t m r ps) (points-right t m r ps);
+  step = order-gives (stepOrder t m r) (step-right t m r);
+  read = λ x. order-gives (readOrder t m r x) (read-right t m r x);
+  dump = λ room wanted. order-gives (dumpOrder t m r room wanted) (dump-right t m r room wanted);
+}
 
 -- ---- a refused call changes nothing
 
 unless-leaves : {A : Type 0} (n : ℕ) (r : Record) (m : Memory) (a : A) (next : Record) (memory : Memory)
-    → Leaves n r m (unless′ n r m (record { answer = said a; next = next; memory = memory }))
+    → Leaves n r m (unless n r m (record { answer = said a; next = next; memory = memory }))
 unless-leaves zero r m a next memory = record { refused = λ l. absurd (omega arith); carried = λ e. (a, refl) }
 unless-leaves (suc n) r m a next memory = record { refused = λ l. refl; carried = λ e. absurd (omega arith) }
 

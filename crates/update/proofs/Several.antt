@@ -1,43 +1,35 @@
 -- Several points: what their tests say, and that one point gives the old answers. Assumes nothing.
-use mathlib.Core.Path.{_≡_, refl, sym, ap, _∙_, fun-ext}
-use mathlib.Core.Bool.{Bool, true, false, _&&_, _||_, or-false, or-true, true≢false}
-use mathlib.Core.Logic.{_⊎_, inl, inr, ⊎-elim}
+use mathlib.Core.Path.{_≡_, sym, ap, _∙_, fun-ext}
+use mathlib.Core.Bool.{false, _&&_, or-false}
 use mathlib.Core.List.{List, [], _∷_, map}
-use Prim.Native.Nat.{ℕ, zero, suc, _+_, _-_, _≤_, _<_, max, zero-le}
+use Prim.Native.Nat.{ℕ, _+_, _-_, _≤_, max, zero-le}
 use native.Mathlib.Omega.{arith}
-use lib.Dec.{ltb, leb, eqb}
-use lib.ListN.{length, getD, length-take}
-use borrow.Author.Tests.{le-ltb, lt-ltb, ltb-true, ltb-false, le-leb, leb-true, leb-false, eq-eqb, eqb-true, eqb-false}
-use Rattle.table.specs.First.{orElse, first}
-use Rattle.table.specs.Words.{leftOf}
-use Rattle.table.proofs.FirstLaws.{or-none}
+use lib.Dec.{ltb, leb}
+use lib.ListN.{length, length-take}
+use borrow.Author.Tests.{le-ltb}
+use Rattle.refusal.specs.Orders.{refusalBy}
+use Rattle.refusal.proofs.Orders.{or-zero, order-gives}
 use Rattle.tree.specs.declared.Point.{Point}
 use Rattle.tree.specs.Tree.{judgeNodes}
 use Rattle.tree.specs.Replace.{part}
 use Rattle.tree.specs.Replacement.{after}
-use Rattle.tree.specs.Points.{Part, partAt, nodesRow, ownsRow, leavingRow, comingRow, shiftedRow, pointsRow, newAt, formerRow, overlaps, Row, none, more}
+use Rattle.tree.specs.Points.{Part, nodesRow, ownsRow, leavingRow, comingRow, shiftedRow, pointsRow, newAt, formerRow, overlaps, Row, none, more}
 use Rattle.tree.specs.PointLaws.{shift}
 use Rattle.tree.proofs.Points.{shift-rest, step-law, step-ahead, step-some, step-after, all-rows}
-use Rattle.climb.proofs.Lists.{or-false-is}
 use Rattle.wire.specs.Instances.{nodeOf}
 use Rattle.wire.specs.Points.{slotRow}
 use Rattle.update.specs.declared.Record.{Record}
 use Rattle.update.specs.Memories.{Memory, nodesOf, ownsOf, belowPoint, arranged, arrangedRow, replaced, replacedRow}
-use Rattle.update.specs.Refusals.{firstRefusal, passes, replaceRefusal, miscounted, missing, nodesLeft, partRefusal, partsRefusal, pointsRefusal}
+use Rattle.update.specs.Refusals.{replaceRefusal, miscounted, missing, nodesLeft, partRefusal, partsOrder, partsRefusal, pointsRefusal, Present}
 use Rattle.update.specs.Within.{Apart, none as apart-none, more as apart-more}
 use Rattle.update.specs.Calls.{replaceCall, pointsCall}
-use Rattle.update.specs.Refused.{Present}
 use Rattle.update.specs.Points.{OnePoint, PartsMean, AllAccepted}
 use Rattle.update.proofs.Within.{short-means, beyond-means}
 use Rattle.update.proofs.Asking.{present-means, apart-means, tests-row}
-use Rattle.update.proofs.Refusing.{all-exactly, refuses-exactly}
+use Rattle.update.proofs.Refusing.{all-exactly, parts-right}
 use Rattle.update.proofs.Ready.{tree-equal, tree-sound}
 
 -- ---- one point
-
-or-zero : (n : ℕ) → orElse n 0 ≡ n
-or-zero zero = refl
-or-zero (suc n) = refl
 
 module _ (t : List ℕ) (m : Memory) (r : Record) (p : Part) where
   abbrev ns : List ℕ
@@ -56,11 +48,11 @@ module _ (t : List ℕ) (m : Memory) (r : Record) (p : Part) where
   one-count = omega arith
 
   one-part : partsRefusal t ns (p ∷ []) ≡ partRefusal t ns p
-  unfolding partsRefusal first
+  unfolding partsRefusal refusalBy
   one-part = or-zero (partRefusal t ns p)
 
   pub one-refusal : pointsRefusal t m r (p ∷ []) ≡ replaceRefusal t m r (p .point) (p .nodes) (p .owns)
-  unfolding pointsRefusal replaceRefusal passes first miscounted nodesRow
+  unfolding pointsRefusal replaceRefusal refusalBy miscounted nodesRow
   one-refusal = rw (one-missing, one-overlaps, one-count, one-part)
 
   one-points : pointsRow t ns (p ∷ []) ≡ record { node = p .point; count = length (p .nodes) } ∷ []
@@ -109,7 +101,7 @@ row-apart t ns w e from (p ∷ ps) (more l f g) =
 pub accepted : AllAccepted
 unfolding nodesLeft
 accepted t m r ps h =
-    let c = all-exactly t m r .points ps .by0 .0 h in
+    let c = all-exactly t m r .points ps .none .0 h in
     let roomy = short-means m .0 (c .0) in
     let limits = beyond-means r .0 (c .1 .1 .0) in
     let d = c .1 .1 .1 .1 in
@@ -137,4 +129,4 @@ accepted t m r ps h =
 
 pub parts-mean : PartsMean
 unfolding partsRefusal
-parts-mean t ns ps n z = refuses-exactly (map (partRefusal t ns) ps) n z
+parts-mean t ns ps = order-gives (partsOrder t ns ps) (parts-right t ns ps)

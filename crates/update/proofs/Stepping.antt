@@ -9,12 +9,12 @@ use native.Mathlib.Omega.{arith}
 use lib.Dec.{eqb, ltb}
 use borrow.Author.Tests.{eqb-true, eq-eqb, ne-eqb, eqb-false, lt-ltb, le-ltb, ltb-true, ltb-false}
 use lib.ListN.{length}
-use Rattle.circles.specs.Ranked.{member, loneOf}
+use Rattle.circles.specs.Ranked.{circleAt, member, loneOf}
 use Rattle.climb.specs.System.{Assignment, System, graphOf}
 use Rattle.climb.specs.Climb.{stage, stillOf, roundsOf}
 use Rattle.climb.specs.Inside.{GainingIn}
 use Rattle.climb.specs.Laws.{Climbs, Shuts}
-use Rattle.climb.specs.Circuit.{circleAt, dueOf, afterOf, workedOf, roundsAt, circlesTo, roundsTo, evaluationsTo}
+use Rattle.climb.specs.Circuit.{dueOf, afterOf, workedOf, roundsAt, circlesTo, roundsTo, evaluationsTo}
 use Rattle.climb.specs.CircuitLaws.{Passed, Limits}
 use Rattle.climb.specs.Memory.{at, emptyOn, roundOn, Within}
 use Rattle.climb.proofs.Lists.{either, or-false-is, Found, least-from}
@@ -120,37 +120,37 @@ unfolding roundNumber
 round-next r i k c e h = rw (eq-eqb i i refl) (min-eq-left h)
 
 -- the step after t rounds finds no due circle
-pub record Ended (S : System) (R : List (List ℕ)) (r : Record) (before : List ℕ) (t : ℕ) (s : List ℕ) (m : Made) : Type 0 where
-  pub time : t ≡ roundsTo S R (sownOf r) (at before) (length R)
-  pub value : at s ≡ afterOf S R (sownOf r) (at before) (length R)
+pub record Ended (S : System) (R : List (List ℕ)) (r : Record) (earlier : List ℕ) (t : ℕ) (s : List ℕ) (m : Made) : Type 0 where
+  pub time : t ≡ roundsTo S R (sownOf r) (at earlier) (length R)
+  pub value : at s ≡ afterOf S R (sownOf r) (at earlier) (length R)
   pub made : m ≡ record {
-    outcome = done (circlesTo S R (sownOf r) (at before) (length R)) (evaluationsTo S R (sownOf r) (at before) (length R)) (changedOf S r before s);
+    outcome = done (circlesTo S R (sownOf r) (at earlier) (length R)) (evaluationsTo S R (sownOf r) (at earlier) (length R)) (changedOf S r earlier s);
     next = shut (r .held) (r .nodes);
     sets = s;
   }
 
-module _ (S : System) (R : List (List ℕ)) (r : Record) (before : List ℕ) (B : Begins S R r before) where
+module _ (S : System) (R : List (List ℕ)) (r : Record) (earlier : List ℕ) (B : Begins S R r earlier) where
   abbrev sown : ℕ → Bool
   sown = sownOf r
 
   abbrev b : Assignment
-  b = at before
+  b = at earlier
 
   abbrev after : ℕ → Assignment
-  after = afterOf S R (sownOf r) (at before)
+  after = afterOf S R (sownOf r) (at earlier)
 
   climb : (i : ℕ) → Climbs S (circleAt R i) (after i)
   climb i = climbs-at S R sown b (B .lawful) (B .small) i
 
-  within : (i : ℕ) (s : List ℕ) → length s ≡ length before → Within (circleAt R i) s
+  within : (i : ℕ) (s : List ℕ) → length s ≡ length earlier → Within (circleAt R i) s
   within i s p x m = omega (arith, B .room x (B .ranked .declared i x m))
 
-  phase-round : (i j : ℕ) (s : List ℕ) → length s ≡ length before → j < roundsAt S R sown b i → Phase S R sown b i j (at s) → Rounded S (circleAt R i) (after i) j s
+  phase-round : (i j : ℕ) (s : List ℕ) → length s ≡ length earlier → j < roundsAt S R sown b i → Phase S R sown b i j (at s) → Rounded S (circleAt R i) (after i) j s
   unfolding roundsAt
   phase-round i zero s p l (between e) = first-round S (circleAt R i) (B .lawful i .gaining) (after i) (climb i) s l (within i s p) e
   phase-round i (suc j) s p l (climbing g w h f e) = later-round S (circleAt R i) (B .lawful i .gaining) (after i) (climb i) j s l (within i s p) e
 
-  round-flag : (i j : ℕ) (s : List ℕ) → length s ≡ length before → j < roundsAt S R sown b i → Phase S R sown b i j (at s)
+  round-flag : (i j : ℕ) (s : List ℕ) → length s ≡ length earlier → j < roundsAt S R sown b i → Phase S R sown b i j (at s)
       → closedOf S (circleAt R i) (fromOf S (circleAt R i) (suc j) s) (toOf S (circleAt R i) (fromOf S (circleAt R i) (suc j) s)) ≡ eqb (suc j) (roundsAt S R sown b i)
   unfolding roundsAt
   round-flag i j s p l g = phase-round i j s p l g .closed
@@ -169,9 +169,9 @@ module _ (S : System) (R : List (List ℕ)) (r : Record) (before : List ℕ) (B 
   phase-outside i (suc j) v (climbing g w h f e) x o = ap (λ (u : Assignment). u x) e ∙ stage-out S (member (circleAt R i)) (after i) (suc j) x o
 
   -- round j + 1 of circle i, after t rounds, by a record that has counted so far
-  going : (t i j i₀ k₀ c e : ℕ) (s : List ℕ) → i < length R → workedOf S R sown b i ≡ true → j < roundsAt S R sown b i → length s ≡ length before → Phase S R sown b i j (at s)
+  going : (t i j i₀ k₀ c e : ℕ) (s : List ℕ) → i < length R → workedOf S R sown b i ≡ true → j < roundsAt S R sown b i → length s ≡ length earlier → Phase S R sown b i j (at s)
       → t ≡ roundsTo S R sown b i + j → c ≡ circlesTo S R sown b i → e ≡ evaluationsTo S R sown b i + length (circleAt R i) * j
-      → NextRound S R r before t s (roundMade S (circleAt R i) (working r i₀ k₀ c e) i (suc j) s)
+      → NextRound S R r earlier t s (roundMade S (circleAt R i) (working r i₀ k₀ c e) i (suc j) s)
   unfolding roundMade roundRecord
   going t i j i₀ k₀ c e s l w f p g ht hc he = record {
     i = i;
@@ -205,7 +205,7 @@ module _ (S : System) (R : List (List ℕ)) (r : Record) (before : List ℕ) (B 
       few : min (e + length C) 1073745920 ≡ e + length C
       few = min-eq-left (omega (arith, limits .midst i j l w f))
 
-      closed : eqb (suc j) (roundsAt S R sown b i) ≡ true → StandsAfter S R r before (suc t) (m .next) (m .sets)
+      closed : eqb (suc j) (roundsAt S R sown b i) ≡ true → StandsAfter S R r earlier (suc t) (m .next) (m .sets)
       closed h =
           let q : suc j ≡ roundsAt S R sown b i = eqb-true (suc j) (roundsAt S R sown b i) h in
           let a = adds S R sown b i w in
@@ -223,7 +223,7 @@ module _ (S : System) (R : List (List ℕ)) (r : Record) (before : List ℕ) (B 
             places = d .places ∙ p;
           }
 
-      on : eqb (suc j) (roundsAt S R sown b i) ≡ false → StandsAfter S R r before (suc t) (m .next) (m .sets)
+      on : eqb (suc j) (roundsAt S R sown b i) ≡ false → StandsAfter S R r earlier (suc t) (m .next) (m .sets)
       on h =
           let q : suc j < roundsAt S R sown b i = ⊎-elim (λ e. absurd (eqb-false (suc j) (roundsAt S R sown b i) h e)) (λ k. k) (eq-or-lt-of-le f) in
           let y : e + length C ≡ evaluationsTo S R sown b i + length C * suc j = omega arith in
@@ -241,31 +241,31 @@ module _ (S : System) (R : List (List ℕ)) (r : Record) (before : List ℕ) (B 
   abbrev Look : List ℕ → ℕ → ℕ → Type 0
   Look s i j = Found (λ n. dueOf S sown b (at s) (circleAt R n)) (length R - i) i j
 
-  look : (i k c e : ℕ) (s : List ℕ) → Look s i (dueFrom S R (working r i k c e) before s)
+  look : (i k c e : ℕ) (s : List ℕ) → Look s i (dueFrom S R (working r i k c e) earlier s)
   unfolding dueFrom sownOf
   look i k c e s = least-from (λ n. dueOf S sown b (at s) (circleAt R n)) (length R - i) i
 
-  step-round : (i k c e : ℕ) (s : List ℕ) (j n : ℕ) → dueFrom S R (working r i k c e) before s ≡ j → j < length R → roundNumber (working r i k c e) j ≡ n
-      → stepOf S R (working r i k c e) before s ≡ roundMade S (circleAt R j) (working r i k c e) j n s
+  step-round : (i k c e : ℕ) (s : List ℕ) (j n : ℕ) → dueFrom S R (working r i k c e) earlier s ≡ j → j < length R → roundNumber (working r i k c e) j ≡ n
+      → stepOf S R (working r i k c e) earlier s ≡ roundMade S (circleAt R j) (working r i k c e) j n s
   unfolding stepOf
   step-round i k c e s j n p l q = rw (p, lt-ltb j (length R) l, q)
 
-  step-done : (i k c e : ℕ) (s : List ℕ) → length R ≤ dueFrom S R (working r i k c e) before s
-      → stepOf S R (working r i k c e) before s ≡ record { outcome = done c e (changedOf S r before s); next = shut (r .held) (r .nodes); sets = s }
+  step-done : (i k c e : ℕ) (s : List ℕ) → length R ≤ dueFrom S R (working r i k c e) earlier s
+      → stepOf S R (working r i k c e) earlier s ≡ record { outcome = done c e (changedOf S r earlier s); next = shut (r .held) (r .nodes); sets = s }
   unfolding stepOf doneMade changedOf survives
-  step-done i k c e s l = rw (le-ltb (dueFrom S R (working r i k c e) before s) (length R) l)
+  step-done i k c e s l = rw (le-ltb (dueFrom S R (working r i k c e) earlier s) (length R) l)
 
   abbrev Law : ℕ → List ℕ → Made → Type 0
-  Law t s m = NextRound S R r before t s m ⊎ Ended S R r before t s m
+  Law t s m = NextRound S R r earlier t s m ⊎ Ended S R r earlier t s m
 
   -- between two circles: the first that is due, or done
-  between-law : (t i c e : ℕ) (s : List ℕ) → i ≤ length R → at s ≡ after i → t ≡ roundsTo S R sown b i → length s ≡ length before
-      → c ≡ circlesTo S R sown b i → e ≡ evaluationsTo S R sown b i → Law t s (stepOf S R (working r i 0 c e) before s)
+  between-law : (t i c e : ℕ) (s : List ℕ) → i ≤ length R → at s ≡ after i → t ≡ roundsTo S R sown b i → length s ≡ length earlier
+      → c ≡ circlesTo S R sown b i → e ≡ evaluationsTo S R sown b i → Law t s (stepOf S R (working r i 0 c e) earlier s)
   unfolding workedOf
   between-law t i c e s n v ht p hc he = ⊎-elim some none (either (ltb j (length R)))
     where
       j : ℕ
-      j = dueFrom S R (working r i 0 c e) before s
+      j = dueFrom S R (working r i 0 c e) earlier s
 
       f : Look s i j
       f = look i 0 c e s
@@ -276,7 +276,7 @@ module _ (S : System) (R : List (List ℕ)) (r : Record) (before : List ℕ) (B 
       w : at s ≡ after j
       w = v ∙ sym (q .value)
 
-      some : ltb j (length R) ≡ true → Law t s (stepOf S R (working r i 0 c e) before s)
+      some : ltb j (length R) ≡ true → Law t s (stepOf S R (working r i 0 c e) earlier s)
       some h =
           let l : j < length R = ltb-true j (length R) h in
           let d : workedOf S R sown b j ≡ true = sym (ap (λ (u : Assignment). dueOf S sown b u (circleAt R j)) w) ∙ f .here (omega arith) in
@@ -284,7 +284,7 @@ module _ (S : System) (R : List (List ℕ)) (r : Record) (before : List ℕ) (B 
           (going t j 0 i 0 c e s l d (one j) p (between w)
           (omega (arith, q .rounds)) (hc ∙ sym (q .circles)) (omega (arith, q .evaluations))))
 
-      none : ltb j (length R) ≡ false → Law t s (stepOf S R (working r i 0 c e) before s)
+      none : ltb j (length R) ≡ false → Law t s (stepOf S R (working r i 0 c e) earlier s)
       none h =
           let l : length R ≤ j = ltb-false j (length R) h in
           let z : j ≡ length R = omega (arith, f .upto) in
@@ -297,28 +297,28 @@ module _ (S : System) (R : List (List ℕ)) (r : Record) (before : List ℕ) (B 
 
   -- a circle at work is due still: what it reads outside is as it was
   stays-due : (i k c e : ℕ) (s : List ℕ) (n : ℕ) → workedOf S R sown b i ≡ true → at s ≡ stage S (member (circleAt R i)) (after i) n
-      → dueFrom S R (working r i k c e) before s ≡ i
+      → dueFrom S R (working r i k c e) earlier s ≡ i
   unfolding workedOf
   stays-due i k c e s n w v = ⊎-elim (λ e. sym e) (λ l. absurd (true≢false (sym d ∙ f .below i (le-refl i) l))) (eq-or-lt-of-le (f .from))
     where
-      f : Look s i (dueFrom S R (working r i k c e) before s)
+      f : Look s i (dueFrom S R (working r i k c e) earlier s)
       f = look i k c e s
 
       d : dueOf S sown b (at s) (circleAt R i) ≡ true
       d = due-agree S sown b (circleAt R i) (at s) (after i)
           (λ x m y a o. ap (λ (u : Assignment). u y) v ∙ stage-out S (member (circleAt R i)) (after i) n y o) ∙ w
 
-  phase-law : (t i k : ℕ) (s : List ℕ) → i ≤ length R → Phase S R sown b i k (at s) → t ≡ roundsTo S R sown b i + k → length s ≡ length before
-      → Law t s (stepOf S R (recordAt S R r before i k) before s)
+  phase-law : (t i k : ℕ) (s : List ℕ) → i ≤ length R → Phase S R sown b i k (at s) → t ≡ roundsTo S R sown b i + k → length s ≡ length earlier
+      → Law t s (stepOf S R (recordAt S R r earlier i k) earlier s)
   phase-law t i zero s n (between v) ht p = between-law t i _ _ s n v (omega arith) p refl (omega arith)
   phase-law t i (suc k) s n (climbing l w o f v) ht p =
       let c = circlesTo S R sown b i in
       let e = evaluationsTo S R sown b i + length (circleAt R i) * suc k in
-      let q : dueFrom S R (working r i (suc k) c e) before s ≡ i = stays-due i (suc k) c e s (suc k) w v in
+      let q : dueFrom S R (working r i (suc k) c e) earlier s ≡ i = stays-due i (suc k) c e s (suc k) w v in
       let h : suc (suc k) ≤ 262145 = omega (arith, all-limits S R (B .lawful) (B .few) sown b (B .small) .rounds i l) in
       inl (rw (step-round i (suc k) c e s i (suc (suc k)) q l (round-next r i (suc k) c e h))
       (going t i (suc k) i (suc k) c e s l w f p (climbing l w o f v) ht refl refl))
 
   -- from where an update stands a step goes on, or ends it
-  pub step-law : (t : ℕ) (now : Record) (s : List ℕ) → StandsAfter S R r before t now s → Law t s (stepOf S R now before s)
+  pub step-law : (t : ℕ) (now : Record) (s : List ℕ) → StandsAfter S R r earlier t now s → Law t s (stepOf S R now earlier s)
   step-law t now s g = rw (g .numbers) (phase-law t (g .i) (g .k) s (g .rank) (g .phase) (g .time) (g .places))

@@ -28,7 +28,7 @@ roomy m h =
       productions = ltb-false (length (m .productions)) 512 (c .0);
       owns = ltb-false (length (m .owns)) 512 (c .1);
       sets = ltb-false (length (m .sets)) 4096 (b .1);
-      before = ltb-false (length (m .before)) 4096 (a .1);
+      earlier = ltb-false (length (m .earlier)) 4096 (a .1);
     }
 
 not-short : (m : Memory) → Roomy m → short m ≡ false
@@ -37,7 +37,7 @@ not-short m h = rw (
   le-ltb (length (m .productions)) 512 (h .productions),
   le-ltb (length (m .owns)) 512 (h .owns),
   le-ltb (length (m .sets)) 4096 (h .sets),
-  le-ltb (length (m .before)) 4096 (h .before),
+  le-ltb (length (m .earlier)) 4096 (h .earlier),
 )
 
 pub short-means : ShortMeans

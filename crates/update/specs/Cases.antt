@@ -1,4 +1,4 @@
--- "Marked (P) are proved together as a single table under one claim": cases 1 to 9 of "On either side of each line", and 10 with notes. Assumes nothing.
+-- The ten cases of 25.1, as one table with one claim. Assumes nothing.
 use mathlib.Core.Path.{_≡_}
 use mathlib.Core.Bool.{Bool, true, false, cond, _&&_}
 use mathlib.Core.List.{List, [], _∷_, _++_, map}
@@ -16,8 +16,10 @@ use Rattle.update.specs.Records.{emptyRecord}
 use Rattle.update.specs.Memories.{Memory}
 use Rattle.update.specs.Steps.{Outcome, round, done}
 use Rattle.update.specs.Calls.{Said, refused, said, loadCall, replaceCall, stepCall}
+use Rattle.circles.specs.Marks.{slotsMost}
+use Rattle.tree.specs.Tree.{nodesMost}
 
--- a case: what the definitions give, and what the papers say that they give
+-- 25.1: a case: what the definitions give, and what they are to give
 pub record Case : Type 0 where
   pub number : ℕ
   pub given : List ℕ
@@ -38,7 +40,7 @@ everyHolds (c ∷ l) = holds c && everyHolds l
 
 -- ---- session A through the definitions of load, replacement and step
 
--- an outcome as frames 11 and 12 number it: least, round, size and closed, or circles, evaluations and changed
+-- 18.1: an outcome as frames 11 and 12 number it: least, round, size and closed, or circles, evaluations and changed
 abbrev pub numbers : Outcome → List ℕ
 numbers (round least k size closed) = 17 ∷ least ∷ k ∷ size ∷ cond closed 1 0 ∷ []
 numbers (done circles evaluations changed) = 18 ∷ circles ∷ evaluations ∷ changed ∷ []
@@ -63,15 +65,15 @@ unfoldable pub walk : ℕ → Record → Memory → Walk
 walk zero r m = record { told = []; next = r; memory = m }
 walk (suc n) r m = let l = stepCall tableA m r in walkOn (l .answer) (l .next) (l .memory) (walk n)
 
--- buffers of the shortest length that is taken
+-- 7.2: buffers of the shortest length that is taken
 unfoldable pub blank : Memory
-blank = record { productions = replicate 512 0; owns = replicate 512 0; sets = replicate 4096 0; before = replicate 4096 0 }
+blank = record { productions = replicate nodesMost 0; owns = replicate nodesMost 0; sets = replicate slotsMost 0; earlier = replicate slotsMost 0 }
 
--- after the load of session A's tree: production 0 over two of production 1, of which the first has the own set 2
+-- 26.2: after the load of session A's tree: production 0 over two of production 1, of which the first has the own set 2
 unfoldable pub loadA : Walk
 loadA = let l = loadCall tableA blank emptyRecord (0 ∷ 1 ∷ 1 ∷ []) (0 ∷ 2 ∷ 0 ∷ []) in walk 10 (l .next) (l .memory)
 
--- and after a replacement of node 1 by one node of production p with an empty own set
+-- 26.2: and after a replacement of node 1 by one node of production p with an empty own set
 unfoldable pub replaceA : ℕ → Walk
 replaceA p = let l = replaceCall tableA (loadA .memory) (loadA .next) 1 (p ∷ []) (0 ∷ []) in walk 10 (l .next) (l .memory)
 
@@ -84,42 +86,43 @@ setsA w = map (at (w .memory .sets)) (0 ∷ 8 ∷ 12 ∷ 16 ∷ 20 ∷ [])
 abbrev pub some : Argument
 some = record { position = 0; index = 0 }
 
+-- 25.1: the ten, by their numbers
 unfoldable pub cases : List Case
 cases =
-    -- op 6 with c empty gives b
+    -- operation 6 asks for nothing: b, whatever a is
     record { number = 1; given = valueOf (IfAll some some 0) 0 0 6 ∷ valueOf (IfAll some some 0) 0 9 6 ∷ []; wanted = 6 ∷ 6 ∷ [] }
-    -- op 6, a = 1, c = 3 gives empty; a = 3 gives b
+    -- operation 6 asks for two members: one is too few
     ∷ record { number = 2; given = valueOf (IfAll some some 3) 0 1 6 ∷ valueOf (IfAll some some 3) 0 3 6 ∷ []; wanted = 0 ∷ 6 ∷ [] }
-    -- op 7, c = 0, a empty gives b
+    -- operation 7 asks for none
     ∷ record { number = 3; given = valueOf (IfMany some some 0) 0 0 6 ∷ []; wanted = 6 ∷ [] }
-    -- op 7, c = 2, a = 5 gives b; a = 4 gives empty
+    -- operation 7 asks for two members: one is too few
     ∷ record { number = 4; given = valueOf (IfMany some some 2) 0 5 6 ∷ valueOf (IfMany some some 2) 0 4 6 ∷ []; wanted = 6 ∷ 0 ∷ [] }
-    -- op 3, a = 7, c = 5 gives 5
+    -- operation 3
     ∷ record { number = 5; given = valueOf (MeetConstant some 5) 0 7 0 ∷ []; wanted = 5 ∷ [] }
-    -- op 8, own 2, a 1 gives 3
+    -- operation 8
     ∷ record { number = 6; given = valueOf (JoinOwn some) 2 1 0 ∷ []; wanted = 3 ∷ [] }
-    -- A's load circle {8, 12, 16, 20} takes 5 rounds, 4 members at the end
+    -- the load of session A: five rounds of the circle with 8 in it, which has four members in the end
     ∷ record {
       number = 7;
       given = loadA .told ++ (weight (8 ∷ 12 ∷ 16 ∷ 20 ∷ []) (at (loadA .memory .sets)) ∷ []);
       wanted = 17 ∷ 8 ∷ 1 ∷ 4 ∷ 0 ∷ 17 ∷ 8 ∷ 2 ∷ 4 ∷ 0 ∷ 17 ∷ 8 ∷ 3 ∷ 4 ∷ 0 ∷ 17 ∷ 8 ∷ 4 ∷ 4 ∷ 0 ∷ 17 ∷ 8 ∷ 5 ∷ 4 ∷ 1 ∷ 17 ∷ 0 ∷ 1 ∷ 1 ∷ 1 ∷ 18 ∷ 2 ∷ 21 ∷ 0 ∷ 4 ∷ [];
     }
-    -- A's replacement empties all five sets
+    -- its replacement leaves nothing in any of the five
     ∷ record {
       number = 8;
       given = replaceA 1 .told ++ setsA (replaceA 1);
       wanted = 17 ∷ 8 ∷ 1 ∷ 4 ∷ 1 ∷ 17 ∷ 0 ∷ 1 ∷ 1 ∷ 1 ∷ 18 ∷ 2 ∷ 5 ∷ 5 ∷ 0 ∷ 0 ∷ 0 ∷ 0 ∷ 0 ∷ [];
     }
-    -- With 0502z as the new part instead: lone circles 8, 20, 16, 0, 12 in that order, 5 evaluations, 5 changed
+    -- with production 2 instead every circle is lone; they come in this order, and each counts once
     ∷ record {
       number = 9;
       given = replaceA 2 .told;
       wanted = 17 ∷ 8 ∷ 1 ∷ 1 ∷ 1 ∷ 17 ∷ 20 ∷ 1 ∷ 1 ∷ 1 ∷ 17 ∷ 16 ∷ 1 ∷ 1 ∷ 1 ∷ 17 ∷ 0 ∷ 1 ∷ 1 ∷ 1 ∷ 17 ∷ 12 ∷ 1 ∷ 1 ∷ 1 ∷ 18 ∷ 5 ∷ 5 ∷ 5 ∷ [];
     }
-    -- op 7, c = 2, a two members that count and a note gives b; one and a note gives empty
+    -- operation 7 asks for two members, and a note is none
     ∷ record { number = 10; given = valueOf (IfMany some some 2) 0 (3 + 2 ^ 56) 6 ∷ valueOf (IfMany some some 2) 0 (1 + 2 ^ 56) 6 ∷ []; wanted = 6 ∷ 0 ∷ [] }
     ∷ []
 
--- the claim
+-- 25.1: the claim
 abbrev pub EveryCase : Type 0
 EveryCase = everyHolds cases ≡ true

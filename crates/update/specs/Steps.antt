@@ -4,10 +4,10 @@ use mathlib.Core.List.{List}
 use Prim.Native.Nat.{ℕ, zero, suc, _+_, _-_, min}
 use lib.Dec.{eqb, ltb}
 use lib.ListN.{length, getD}
-use Rattle.circles.specs.Ranked.{allOf, keep, upFrom, loneOf}
+use Rattle.circles.specs.Ranked.{circleAt, allOf, keep, upFrom, loneOf}
 use Rattle.climb.specs.System.{System, graphOf}
 use Rattle.climb.specs.Climb.{leastFrom}
-use Rattle.climb.specs.Circuit.{circleAt, dueOf}
+use Rattle.climb.specs.Circuit.{dueOf}
 use Rattle.climb.specs.Memory.{at, emptyOn, roundOn}
 use Rattle.tree.specs.Points.{isOld}
 use Rattle.wire.specs.Instances.{nodeOf}
@@ -15,37 +15,38 @@ use Rattle.wire.specs.Points.{sownAt}
 use Rattle.update.specs.declared.Record.{Record}
 use Rattle.update.specs.Records.{circlesMost, roundMost, evaluationsMost, isLoad, pointsOf, shut, working}
 
--- sown: in a load every instance; else the synthesized ones of each point, and all below it in its part
+-- 10.1: sown: in a load every instance; else the synthesized ones of each point, and all below it in its part
 unfoldable pub sownOf : Record → ℕ → Bool
 sownOf r x = isLoad (r .«open») || sownAt (pointsOf r) x
 
--- "changed: surviving instances, r's included, whose value differs from before. For a load, changed is 0."
+-- 7.10, 11.4: an instance of a surviving node
 unfoldable pub survives : Record → ℕ → Bool
 survives r x = isOld (pointsOf r) (nodeOf x)
 
+-- 11.4: how many of those have another set than before; of a load none counts
 unfoldable pub changedOf : System → Record → List ℕ → List ℕ → ℕ
-changedOf S r before sets =
-    cond (isLoad (r .«open»)) 0 (length (keep (λ x. S .declared x && survives r x && not (eqb (at sets x) (at before x))) (upFrom 0 (S .size))))
+changedOf S r earlier sets =
+    cond (isLoad (r .«open»)) 0 (length (keep (λ x. S .declared x && survives r x && not (eqb (at sets x) (at earlier x))) (upFrom 0 (S .size))))
 
 -- ---- one round of the circle C of rank i
 
--- its number: "the recorded round counts only for a due circle of that very rank"; "a round [..] number that would pass its limit stays at the limit"
+-- 7.9, 10.4: its number: the recorded round goes on where it is of this rank, and else it is the first; at most the limit
 unfoldable pub roundNumber : Record → ℕ → ℕ
 roundNumber r i = min (suc (cond (eqb i (r .rank)) (r .round) 0)) roundMost
 
--- "In round 1 of a circle that isn't lone, its values first become empty."
+-- 10.5: the sets that it begins with: of round 1 the circle's are emptied, unless it is lone
 unfoldable pub fromOf : System → List ℕ → ℕ → List ℕ → List ℕ
 fromOf S C k sets = cond (eqb k 1 && not (loneOf (graphOf S) C)) (emptyOn C sets) sets
 
--- "A round computes every equation of the circle from the values before that round and stores them together."
+-- 10.6: the sets that it leaves
 unfoldable pub toOf : System → List ℕ → List ℕ → List ℕ
 toOf S C from = roundOn S C from
 
--- "The circle closes when a round alters nothing (round 1 compares with empty); a lone circle closes after round 1."
+-- 10.7: whether the circle closes by it
 unfoldable pub closedOf : System → List ℕ → List ℕ → List ℕ → Bool
 closedOf S C from to = loneOf (graphOf S) C || allOf (λ x. eqb (at to x) (at from x)) C
 
--- "when a circle closes, the rank is one past its own and the round is 0"; evaluations are "circle size per round, added up"
+-- 7.9, 10.9: the record behind it: one more closed circle and the next rank, or this rank and round; its size is added to the evaluations
 unfoldable pub roundRecord : Record → ℕ → ℕ → ℕ → Bool → Record
 roundRecord r i k size closed =
     let evaluations = min (r .evaluations + size) evaluationsMost in
@@ -53,16 +54,18 @@ roundRecord r i k size closed =
 
 -- ---- a step
 
--- what a step comes to: a round of a circle, by its least instance, or done
+-- 10.8, 11.2: what a step comes to: a round of a circle, by its least instance, or done
 pub data Outcome : Type 0 where
   round : (least number size : ℕ) (closed : Bool) → Outcome
   done : (circles evaluations changed : ℕ) → Outcome
 
+-- 10.8, 10.9, 11.5: and what it leaves
 pub record Made : Type 0 where
   pub outcome : Outcome
   pub next : Record
   pub sets : List ℕ
 
+-- 10.5 to 10.9: one round, whole
 unfoldable pub roundMade : System → List ℕ → Record → ℕ → ℕ → List ℕ → Made
 roundMade S C r i k sets =
     let from = fromOf S C k sets in
@@ -70,39 +73,42 @@ roundMade S C r i k sets =
     let closed = closedOf S C from to in
     record { outcome = round (getD C 0 0) k (length C) closed; next = roundRecord r i k (length C) closed; sets = to }
 
--- "With no due circle left the step answers done and closes the update."
+-- 11.1, 11.5: nothing is due: the update is closed, and all but the record stays
 unfoldable pub doneMade : System → Record → List ℕ → List ℕ → Made
-doneMade S r before sets = record { outcome = done (r .circles) (r .evaluations) (changedOf S r before sets); next = shut (r .held) (r .nodes); sets = sets }
+doneMade S r earlier sets = record { outcome = done (r .circles) (r .evaluations) (changedOf S r earlier sets); next = shut (r .held) (r .nodes); sets = sets }
 
--- "A step looks from the recorded rank on": the first due circle, or a rank past the last
+-- 10.3: the first due circle from the record's rank on, or a rank past the last
 unfoldable pub dueFrom : System → List (List ℕ) → Record → List ℕ → List ℕ → ℕ
-dueFrom S R r before sets = leastFrom (λ i. dueOf S (sownOf r) (at before) (at sets) (circleAt R i)) (length R - r .rank) (r .rank)
+dueFrom S R r earlier sets = leastFrom (λ i. dueOf S (sownOf r) (at earlier) (at sets) (circleAt R i)) (length R - r .rank) (r .rank)
 
--- "One step takes the first due circle in rank not yet closed and makes one round."
+-- 10.3, 11.1: one step: a round of that circle, or done if there is none
 unfoldable pub stepOf : System → List (List ℕ) → Record → List ℕ → List ℕ → Made
-stepOf S R r before sets =
-    let i = dueFrom S R r before sets in
-    cond (ltb i (length R)) (roundMade S (circleAt R i) r i (roundNumber r i) sets) (doneMade S r before sets)
+stepOf S R r earlier sets =
+    let i = dueFrom S R r earlier sets in
+    cond (ltb i (length R)) (roundMade S (circleAt R i) r i (roundNumber r i) sets) (doneMade S r earlier sets)
 
--- ---- "A run is steps until done or until the caller's budget of rounds is used up; it answers the rounds made and whether it is done, and if so
--- done's three numbers too. The step that answers done makes no round and is taken only while budget is left"
+-- ---- 12.1, 12.2, 12.3: a run of n rounds at most, and how it ends; where nothing is left of n not even the step that would be done is taken
 
+-- 12.2: how a run ends: its budget is used up, or it is done
 pub data Ending : Type 0 where
   paused : Ending
   finished : (circles evaluations changed : ℕ) → Ending
 
-pub record Ran : Type 0 where
+-- 12.2: the rounds made, the ending, and what the run leaves
+pub record RunMade : Type 0 where
   pub rounds : ℕ
   pub ending : Ending
   pub next : Record
   pub sets : List ℕ
 
-abbrev pub continued : Outcome → Record → List ℕ → (Record → List ℕ → Ran) → Ran
+-- 12.1: behind a round the run goes on, and done ends it
+abbrev pub continued : Outcome → Record → List ℕ → (Record → List ℕ → RunMade) → RunMade
 continued (round a k n c) r s go = record { rounds = suc (go r s .rounds); ending = go r s .ending; next = go r s .next; sets = go r s .sets }
 continued (done a b c) r s go = record { rounds = 0; ending = finished a b c; next = r; sets = s }
 
-unfoldable pub runOf : System → List (List ℕ) → List ℕ → ℕ → Record → List ℕ → Ran
-runOf S R before zero r s = record { rounds = 0; ending = paused; next = r; sets = s }
-runOf S R before (suc n) r s =
-    let m = stepOf S R r before s in
-    continued (m .outcome) (m .next) (m .sets) (runOf S R before n)
+-- 12.1, 12.3: a run with a budget of so many rounds
+unfoldable pub runOf : System → List (List ℕ) → List ℕ → ℕ → Record → List ℕ → RunMade
+runOf S R earlier zero r s = record { rounds = 0; ending = paused; next = r; sets = s }
+runOf S R earlier (suc n) r s =
+    let m = stepOf S R r earlier s in
+    continued (m .outcome) (m .next) (m .sets) (runOf S R earlier n)

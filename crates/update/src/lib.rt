@@ -1,9 +1,11 @@
 // The update record that the caller lends, and what the engine's calls answer.
+use circles::SLOTS;
 use refusal::Refusal;
 use tree::Point;
-ghost use Rattle.update.specs.Records.{EmptySays};
+ghost use mathlib.Core.Path.{_≡_};
+ghost use Rattle.update.specs.Records.{EmptySays, isOpen};
 
-// No update, load or replacement open.
+// Which update is open: none, a load, a replacement.
 pub enum Open {
     Nothing,
     Load,
@@ -11,16 +13,16 @@ pub enum Open {
 }
 
 pub struct Record {
-    // tree held or not
+    // whether a tree is held
     pub held: bool,
     pub open: Open,
-    // node count of the held tree
+    // how many nodes it has
     pub nodes: usize,
-    // how many points the open update has, and each by its number in the new tree with its new part's count; a load has one, 0 and the node count.
-    // The others are zero
+    // how many points the open update has, and where: each where it is in the new tree, with the count of its part; of a load there is one, the root with all
+    // nodes. The others are zero
     pub count: usize,
     pub points: [Point; 8],
-    // the rank of the circle at work, and its round
+    // which circle is worked on, by its rank, and in which round
     pub rank: usize,
     pub round: u64,
     // circles worked, and evaluations
@@ -29,7 +31,10 @@ pub struct Record {
 }
 
 impl Record {
-    pub const NODES: usize = 512;
+    pub const NODES: usize = tree::NODES;
+
+    // so many sets a full tree has
+    pub const SETS: usize = SLOTS;
 
     pub const POINTS: usize = 8;
 
@@ -54,6 +59,17 @@ impl Record {
             circles: 0,
             evaluations: 0,
         }
+    }
+}
+
+// Whether an update is open.
+pub fn is_open(open: Open) -> bool
+    ensures { λ r. ⌜ r ≡ isOpen «open» ⌝ }
+{
+    match open {
+        Open::Nothing => false,
+        Open::Load => true,
+        Open::Replacement => true,
     }
 }
 

@@ -8,7 +8,7 @@ use native.Mathlib.Decide.{decLt}
 use native.Mathlib.Omega.{arith}
 use Rattle.circles.specs.Arrays.{over}
 use Rattle.wire.specs.Arrays.{firstAt, secondAt, leftAt, ruleIn, bySlot, Wired}
-use Rattle.wire.specs.Turns.{Held, Room, Partly, Behind, Stay}
+use Rattle.wire.specs.Inner.Turns.{Held, Room, Partly, Behind, Stay}
 use Rattle.wire.proofs.Holding.{slots-length, slot-at}
 use Rattle.wire.proofs.Turning.{partly-all}
 

@@ -4,14 +4,14 @@ use mathlib.Core.Path.{_≡_, refl, sym, ap, _∙_}
 use mathlib.Core.List.{List}
 use lib.ListN.{length, getD, set, length-set}
 use lib.Seq.{getD-set-same, getD-set-other}
-use native.Mathlib.Decide.{decLt, ℕ-discrete}
+use native.Mathlib.Decide.{ℕ-discrete}
 use native.Mathlib.Numerals.{add-one}
 use native.Mathlib.Omega.{arith}
 use Rattle.table.specs.Words.{childCount}
 use Rattle.tree.specs.Tree.{childAt}
 use Rattle.tree.proofs.Size.{child-first, child-after, turn-in}
 use Rattle.wire.specs.Instances.{spot}
-use Rattle.wire.specs.Turns.{Held, Ends, Own, Row, Named}
+use Rattle.wire.specs.Inner.Turns.{Held, Ends, Own, Row, Named}
 use Rattle.wire.proofs.Turning.{few-children, spot-below}
 
 -- ---- a row

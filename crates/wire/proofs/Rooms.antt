@@ -9,7 +9,7 @@ use native.Mathlib.Decide.{ℕ-discrete}
 use native.Mathlib.Omega.{arith}
 use Rattle.wire.specs.Instances.{declared}
 use Rattle.wire.specs.Arrays.{firstAt, secondAt, leftAt, ruleIn}
-use Rattle.wire.specs.Turns.{Room, Wires, Partly, Blank, Behind, Stay}
+use Rattle.wire.specs.Inner.Turns.{Room, Wires, Partly, Blank, Behind, Stay}
 
 behind-trans : {n : ℕ} {a b c : List ℕ} → Behind n a b → Behind n b c → Behind n a c
 behind-trans f g = record { long = g .long ∙ f .long; others = λ x h. g .others x h ∙ f .others x h }

@@ -21,7 +21,7 @@ use Rattle.circles.proofs.Alike.{ranked-cong}
 use Rattle.climb.proofs.Lists.{either, any-cong}
 use Rattle.wire.specs.Instances.{declared, waived}
 use Rattle.wire.specs.Arrays.{secondAt, ruleIn, Wired}
-use Rattle.wire.specs.ArrayLaws.{waivesAt, waivesIn, WaivesWired}
+use Rattle.wire.specs.Inner.ArrayLaws.{waivesAt, waivesIn, WaivesWired}
 use Rattle.wire.specs.Waivers.{graph, waives}
 use Rattle.wire.proofs.Places.{declared-below}
 use Rattle.wire.proofs.Lawful.{waived-declared}

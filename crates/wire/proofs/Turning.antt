@@ -1,7 +1,7 @@
 -- Turn by turn, position by position, node by node: the wiring as it is made. Assumes nothing.
 use Prim.Native.Nat.{ℕ, zero, suc, _+_, _-_, _*_, _/_, _%_, _≤_, _<_, zero-le}
 use mathlib.Core.Path.{_≡_, refl, sym, ap, _∙_}
-use mathlib.Core.Bool.{true, false, true≢false}
+use mathlib.Core.Bool.{true, true≢false}
 use mathlib.Core.List.{List, map}
 use mathlib.Core.Logic.{⊎-elim}
 use lib.ListN.{length, getD, set}
@@ -18,7 +18,7 @@ use Rattle.tree.proofs.Symbols.{child-below, child-symbol}
 use Rattle.climb.proofs.Lists.{either}
 use Rattle.wire.specs.Instances.{declared, placeOf, ruleAt, spot, named, argsAt}
 use Rattle.wire.specs.Arrays.{firstAt, secondAt, leftAt, ruleIn}
-use Rattle.wire.specs.Turns.{Held, Room, firstIndex, Wires, turn, Partly}
+use Rattle.wire.specs.Inner.Turns.{Held, Room, firstIndex, Wires, turn, Partly}
 use Rattle.wire.proofs.Places.{Defined, here, parent, opIn, has-synthesized, has-inherited, declared-below, is-declared, place-defined, defined-has, defined-node, defined-rule, defined-args, number-in}
 
 -- a place of the table defines one instance of a node

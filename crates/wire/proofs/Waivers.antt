@@ -16,12 +16,11 @@ use Rattle.table.specs.Equations.{opNumber, operations, opOf, equationAt}
 use Rattle.table.specs.Judge.{judgeTable}
 use Rattle.tree.specs.Tree.{judgeNodes}
 use Rattle.circles.specs.Graph.{_∈_, Closed}
-use Rattle.circles.specs.Ranked.{member, anyOf, upFrom, labelsOf, labelAt, ranked}
+use Rattle.circles.specs.Ranked.{circleAt, member, anyOf, upFrom, labelsOf, labelAt, ranked}
 use Rattle.circles.specs.Laws.{Ordered}
 use Rattle.circles.proofs.Lists.{any-of, of-any, of-slots}
 use Rattle.circles.proofs.Sequence.{circles, ordered}
 use Rattle.climb.specs.System.{graphOf}
-use Rattle.climb.specs.Circuit.{circleAt}
 use Rattle.climb.specs.Waived.{WaivedOutside}
 use Rattle.climb.proofs.Lists.{either, none-any}
 use Rattle.climb.proofs.Systems.{outside-lawful, none-lawful}

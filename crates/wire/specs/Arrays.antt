@@ -7,15 +7,16 @@ use lib.ListN.{length, getD}
 use Rattle.circles.specs.Ranked.{upFrom}
 use Rattle.circles.specs.Arrays.{over}
 use Rattle.wire.specs.Instances.{declared, placeOf, ruleAt, argsAt}
+use Rattle.circles.specs.Marks.{notDeclared, noSlot}
 
--- the first and the second argument: 65535 where there is none, 65534 where the slot is not declared
+-- 5.1: the first and the second argument: 65535 where there is none, 65534 where the slot is not declared
 unfoldable pub firstAt : List ℕ → List ℕ → ℕ → ℕ
-firstAt t ns x = cond (declared t ns x) (getD (argsAt t ns x) 0 65535) 65534
+firstAt t ns x = cond (declared t ns x) (getD (argsAt t ns x) 0 noSlot) notDeclared
 
 unfoldable pub secondAt : List ℕ → List ℕ → ℕ → ℕ
-secondAt t ns x = cond (declared t ns x) (getD (argsAt t ns x) 1 65535) 65534
+secondAt t ns x = cond (declared t ns x) (getD (argsAt t ns x) 1 noSlot) notDeclared
 
--- the defining node and the rule; 0 where the slot is not declared
+-- 4.7: the defining node and the rule; 0 where the slot is not declared
 unfoldable pub leftAt : List ℕ → List ℕ → ℕ → ℕ
 leftAt t ns x = cond (declared t ns x) (placeOf t ns x .node) 0
 

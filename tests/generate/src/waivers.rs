@@ -28,7 +28,7 @@ pub fn add(chance: &mut Chance, rules: &mut Rules, allowed: Allowed) {
     for equation in rules.productions.iter_mut().flat_map(|production| &mut production.equations) {
         match equation.op {
             4..=7 if chance.one_in(3) => (equation.op, equation.c) = (9, 0),
-            // An argument counts even where c makes it irrelevant.
+            // An argument counts, whatever the constant lets through of it.
             3 | 6 if chance.one_in(3) => equation.c = 0,
             _ => {}
         }

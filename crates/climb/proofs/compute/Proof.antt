@@ -11,7 +11,7 @@ use lib.Dec.{eqb}
 use lib.ListN.{length, getD, length-set}
 use lib.Seq.{slice, sets as row}
 use Rattle.climb.specs.Memory.{at, stillOn}
-use Rattle.climb.specs.Wired.{evalOf, wired, Row, Rows}
+use Rattle.climb.specs.Inner.Wired.{evalOf, wired, Row, Rows}
 use Rattle.climb.proofs.Places.{rows-on, row-on, row-over, still-on, still-over}
 use Rattle.climb.proofs.compute.Statement.{statement}
 use Rattle.climb.proofs.compute.Tie as tie

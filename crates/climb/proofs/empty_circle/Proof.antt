@@ -8,7 +8,7 @@ use borrow.Author.Needs.{needs}
 use lib.ListN.{length, length-set}
 use lib.Seq.{slice}
 use Rattle.climb.specs.Memory.{emptyOn}
-use Rattle.climb.specs.Wired.{Span}
+use Rattle.climb.specs.Inner.Wired.{Span}
 use Rattle.climb.proofs.Places.{span-on, stores-on, stores-over}
 use Rattle.climb.proofs.empty_circle.Statement.{statement}
 use Rattle.climb.proofs.empty_circle.Tie as tie

@@ -1,7 +1,7 @@
--- `evaluate`: the equation of the rule at the own set of the left node and at the two arguments. Assumes nothing.
+-- `evaluate`: the equation of the rule at the left node's own set and at the two arguments. Assumes nothing.
 use borrow.Author.Needs.{needs}
 use Rattle.climb.specs.Memory.{at}
-use Rattle.climb.specs.Wired.{evalOf}
+use Rattle.climb.specs.Inner.Wired.{evalOf}
 use Rattle.climb.proofs.Places.{value-is}
 use Rattle.climb.proofs.evaluate.Statement.{statement}
 use Rattle.climb.proofs.evaluate.Tie as tie

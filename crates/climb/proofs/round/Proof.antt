@@ -1,7 +1,7 @@
 -- `round`: all values are computed before the first is stored. Assumes nothing.
 use borrow.Author.Needs.{needs}
 use Rattle.climb.specs.Memory.{at}
-use Rattle.climb.specs.Wired.{evalOf}
+use Rattle.climb.specs.Inner.Wired.{evalOf}
 use Rattle.climb.proofs.Places.{span-wider, rows-span, stored-together}
 use Rattle.climb.proofs.round.Statement.{statement}
 use Rattle.climb.proofs.round.Tie as tie

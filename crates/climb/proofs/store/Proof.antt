@@ -8,7 +8,7 @@ use borrow.Author.Needs.{needs}
 use lib.ListN.{length, length-set}
 use lib.Seq.{slice}
 use Rattle.climb.specs.Memory.{puts}
-use Rattle.climb.specs.Wired.{Span}
+use Rattle.climb.specs.Inner.Wired.{Span}
 use Rattle.climb.proofs.Places.{span-on, puts-on, puts-over}
 use Rattle.climb.proofs.store.Statement.{statement}
 use Rattle.climb.proofs.store.Tie as tie

@@ -18,7 +18,7 @@ use Rattle.tree.proofs.row.Reads as row
 use Rattle.tree.proofs.row.Kinds as row-kinds
 use Rattle.tree.proofs.subtree.Reads as subtree
 use Rattle.tree.proofs.subtree.Kinds as subtree-kinds
-use Rattle.tree.proofs.wide.Reads as wide-reads
+use Rattle.tree.proofs.index.Reads as index-reads
 use Rattle.tree.proofs.+row+subtree.Lts-row as row-lts
 use Rattle.tree.proofs.+row+subtree.Lts-subtree as subtree-lts
 use Rattle.tree.proofs.+row+subtree.{statement}
@@ -78,8 +78,8 @@ pub +row+subtree-spec : {M : Type 1} → statement M
     let h = known (s .args .table .now) (s .args .productions .now) (s .args .at) _ (_ ∷ []) (c .before .r .given .1) (c .before .before .before .subtree .ensures) in
     row-stops (s .args .table .now) (s .args .productions .now) (s .args .at) (s .args .production) (s .args .child) (d .child-of .result) (d .child-of .ensures) (omega arith) h))
     λ t. subtree-lts.spec (
-      wide-reads.Asked,
-      wide-reads.Learnt,
+      index-reads.Asked,
+      index-reads.Learnt,
       production-count-reads.Asked,
       production-count-reads.Learnt,
       left-of-reads.Asked,
@@ -97,10 +97,10 @@ pub +row+subtree-spec : {M : Type 1} → statement M
     (λ c κs. omega arith)
     (λ c.
     let s = c .before .before .before .before .before .before .before .before in
-    λ ss. judge-wrong (s .args .table .now) (s .args .productions .now) (s .args .at) (omega arith) (s .args .symbol) ss (omega arith) (λ e. omega (arith, ap (leftOf (s .args .table .now)) (c .before .before .before .before .wide .ensures .0))))
+    λ ss. judge-wrong (s .args .table .now) (s .args .productions .now) (s .args .at) (omega arith) (s .args .symbol) ss (omega arith) (λ e. omega (arith, ap (leftOf (s .args .table .now)) (c .before .before .before .before .index .ensures .0))))
     (λ c. omega arith)
     (λ c κs. let s = c .before .before .before .before .before .before .before .before in (omega arith, (s .pre .1 .0, (omega arith, (omega arith, omega arith)))))
     (λ c.
     let s = c .before .before .before .before .before .before .before .before .before in
     let w = c .before .before .before .before .before in
-    subtree-goes (s .args .table .now) (s .args .productions .now) (s .args .at) (s .args .symbol) (w .wide .result) (omega arith) (w .wide .ensures .0) (omega arith) (omega arith) (c .row .result) (c .row .ensures))
+    subtree-goes (s .args .table .now) (s .args .productions .now) (s .args .at) (s .args .symbol) (w .index .result) (omega arith) (w .index .ensures .0) (omega arith) (omega arith) (c .row .result) (c .row .ensures))

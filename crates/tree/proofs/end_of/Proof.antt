@@ -23,7 +23,7 @@ module _ (l : tie.At-loop Inv-loop μ-loop) where
 
   -- where the place of every child behind is this one
   last : l .loop .next ≡ childAt (s .args .table .now) (s .args .productions .now) (s .args .at) (l .before .child-count .result) → l .loop .next ≡ spanEnd (s .args .table .now) (s .args .productions .now) (s .args .at)
-  last e = turn-last (s .args .table .now) (s .args .productions .now) (s .args .at) (l .before .before .wide .result) (l .before .child-count .result) (l .loop .next) (l .before .child-count .result) (s .pre .0) (l .before .before .wide .ensures .0) (l .before .child-count .ensures) refl e
+  last e = turn-last (s .args .table .now) (s .args .productions .now) (s .args .at) (l .before .before .index .result) (l .before .child-count .result) (l .loop .next) (l .before .child-count .result) (s .pre .0) (l .before .before .index .ensures .0) (l .before .child-count .ensures) refl e
 
 -- where a child is left
 module _ (e : tie.Else1 Inv-loop μ-loop) where

@@ -3,6 +3,7 @@ use mathlib.Core.Path.{_∙_}
 use native.Mathlib.Omega.{arith}
 use borrow.Author.Needs.{needs}
 use Rattle.refusal.proofs.Distinct.{sound-zero}
+use Rattle.refusal.specs.Orders.{refusalBy}
 use Rattle.table.proofs.Steps.{or-stops}
 use Rattle.table.proofs.Limits.{limits}
 use Rattle.tree.specs.Refusals.{treeRefusal}
@@ -31,7 +32,7 @@ nodes c =
     ∙ judged (s .args .table .now) (s .args .productions .now) (s .args .owns .now) (sound-zero (b .enum-told .given .1) (b .before .before .judge-table .ensures)) (omega arith) (omega arith)
 
 pub judge-tree-spec : {M : Type 1} → statement M
-unfolding treeRefusal
+unfolding treeRefusal refusalBy
 judge-tree-spec =
     tie.close
     (tie.spec

@@ -1,11 +1,10 @@
 -- From the last node to the first: the loop has the ends of the nodes behind it, and touches nothing behind the nodes. Assumes nothing.
-use Prim.Native.Nat.{ℕ, _+_, _-_, _≤_, _<_}
+use Prim.Native.Nat.{ℕ, _-_, _≤_}
 use mathlib.Core.Path.{_≡_, refl, _∙_}
 use native.Mathlib.Omega.{arith}
-use borrow.Author.Needs.{needs}
 use lib.ListN.{length, getD, length-set}
 use lib.Seq.{getD-set-other}
-use Rattle.tree.specs.Spans.{Ended}
+use Rattle.tree.specs.Inner.Spans.{Ended}
 use Rattle.tree.proofs.Size.{end-le, ended-more}
 use Rattle.tree.proofs.spans.Statement.{statement}
 use Rattle.tree.proofs.spans.Tie as tie

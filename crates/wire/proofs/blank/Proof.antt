@@ -2,7 +2,7 @@
 use Prim.Native.Nat.{_-_, _≤_, _<_}
 use mathlib.Core.Path.{_≡_}
 use native.Mathlib.Omega.{arith}
-use Rattle.wire.specs.Turns.{Room, Blank, Stay}
+use Rattle.wire.specs.Inner.Turns.{Room, Blank, Stay}
 use Rattle.wire.proofs.Rooms.{stay-refl, stay-set, stay-room, blank-none, blank-more}
 use Rattle.wire.proofs.blank.Statement.{statement}
 use Rattle.wire.proofs.blank.Tie as tie

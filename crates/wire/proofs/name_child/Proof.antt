@@ -3,7 +3,7 @@ use Prim.Native.Nat.{_+_, _-_, _*_, _≤_, _<_}
 use mathlib.Core.Path.{_≡_, refl}
 use native.Mathlib.Omega.{arith}
 use lib.ListN.{length, getD}
-use Rattle.wire.specs.Turns.{Own, Row}
+use Rattle.wire.specs.Inner.Turns.{Own, Row}
 use Rattle.wire.proofs.Naming.{row-none, row-more, row-own}
 use Rattle.wire.proofs.name_child.Statement.{statement}
 use Rattle.wire.proofs.name_child.Tie as tie

@@ -1,12 +1,12 @@
 -- From child to child: the names so far are written, and where the loop stands is the place of the next child. Assumes nothing.
-use Prim.Native.Nat.{_+_, _-_, _≤_, _<_}
-use mathlib.Core.Path.{_≡_, ap, _∙_}
+use Prim.Native.Nat.{_-_, _≤_, _<_}
+use mathlib.Core.Path.{ap, _∙_}
 use native.Mathlib.Omega.{arith}
 use lib.ListN.{length, getD}
 use borrow.Author.Needs.{needs}
 use Rattle.table.specs.Words.{childCount}
 use Rattle.table.proofs.Limits.{limits}
-use Rattle.wire.specs.Turns.{Named}
+use Rattle.wire.specs.Inner.Turns.{Named}
 use Rattle.wire.proofs.Places.{number-in}
 use Rattle.wire.proofs.Naming.{Naming, naming-none, naming-few, naming-in, naming-after, naming-more, naming-all}
 use Rattle.wire.proofs.name_children.Statement.{statement}
@@ -18,7 +18,7 @@ Inv-loop table productions ends q named₀ count next₀ k₀ named next k = Nam
 abbrev μ-loop : tie.MeasureT-loop
 μ-loop table productions ends q named₀ count next₀ k₀ named next k = 4 - k
 
-abbrev st : tie.After-wide Inv-loop μ-loop → tie.Start Inv-loop μ-loop
+abbrev st : tie.After-index Inv-loop μ-loop → tie.Start Inv-loop μ-loop
 st w = w .before .before .before .before
 
 abbrev top : tie.At-loop Inv-loop μ-loop → tie.Start Inv-loop μ-loop
@@ -50,7 +50,7 @@ module _ (l : tie.At-loop Inv-loop μ-loop) where
 holds : tie.Need-loop-holds Inv-loop μ-loop
 holds c =
     let s = st (c .before) in
-    naming-none (s .args .table .now) (s .args .productions .now) (s .args .q) (s .args .named .now) (c .child-count .result) (s .pre .1 .1 .1) (c .child-count .ensures ∙ ap (childCount (s .args .table .now)) (c .before .wide .ensures .0))
+    naming-none (s .args .table .now) (s .args .productions .now) (s .args .q) (s .args .named .now) (c .child-count .result) (s .pre .1 .1 .1) (c .child-count .ensures ∙ ap (childCount (s .args .table .now)) (c .before .index .ensures .0))
 
 -- where a child is left
 module _ (e : tie.Else1 Inv-loop μ-loop) where
@@ -74,7 +74,7 @@ again c =
     let e = n .before .before in
     let o = l e in
     let a = s o in
-    rw (c .wide16 .ensures) (naming-more (a .args .table .now) (a .args .productions .now) (a .args .ends .now) (a .pre .0) (a .pre .1 .0) (a .args .q) (a .pre .1 .1 .0) (o .loop .named) (o .before .child-count .result) (o .loop .next) (o .loop .k) (o .loop .inv) _ (more e) (n .name-child .ensures))
+    rw (c .wide .ensures) (naming-more (a .args .table .now) (a .args .productions .now) (a .args .ends .now) (a .pre .0) (a .pre .1 .0) (a .args .q) (a .pre .1 .1 .0) (o .loop .named) (o .before .child-count .result) (o .loop .next) (o .loop .k) (o .loop .inv) _ (more e) (n .name-child .ensures))
 
 pub name-children-spec : {M : Type 1} → statement M
 name-children-spec =
@@ -84,7 +84,7 @@ name-children-spec =
     μ-loop
     (λ c. c .before .before .before .pre .1 .1 .0)
     (λ c κs. search needs)
-    (λ c κs. omega (arith, c .wide .ensures .0, number (st c)))
+    (λ c κs. omega (arith, c .index .ensures .0, number (st c)))
     (λ c. omega (arith, st (c .before) .pre .1 .1 .0, st (c .before) .pre .0 .few))
     holds
     (λ c. (all (c .before .before) (c .if1 .taken), c .before .before .loop .inv .counted))

@@ -2,7 +2,7 @@
 use Prim.Native.Nat.{_+_, _-_, _*_, _≤_}
 use mathlib.Core.Path.{_≡_}
 use native.Mathlib.Omega.{arith}
-use lib.ListN.{length, getD}
+use lib.ListN.{getD}
 use Rattle.wire.proofs.Naming.{Moving, moving-none, moving-more, moving-all}
 use Rattle.wire.proofs.name_next.Statement.{statement}
 use Rattle.wire.proofs.name_next.Tie as tie

@@ -1,7 +1,6 @@
 -- Name by name: those before i are written. Assumes nothing.
-use Prim.Native.Nat.{_+_, _-_, _≤_}
+use Prim.Native.Nat.{_-_, _≤_}
 use native.Mathlib.Omega.{arith}
-use lib.ListN.{length}
 use Rattle.wire.proofs.Naming.{Starting, starting-none, starting-more, starting-all}
 use Rattle.wire.proofs.name_root.Statement.{statement}
 use Rattle.wire.proofs.name_root.Tie as tie

@@ -1,6 +1,4 @@
 -- Operations 2 to 8 read a, 4 to 7 read b; a field that is not read leads to the mark. Assumes nothing.
-use Prim.Native.Nat.{_+_, _/_, _%_, _<_, _≤_}
-use mathlib.Core.Path.{_≡_}
 use native.Mathlib.Omega.{arith}
 use borrow.Author.Needs.{needs}
 use Rattle.table.specs.Equations.{opNumber}

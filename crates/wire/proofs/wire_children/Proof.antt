@@ -1,17 +1,17 @@
 -- Child by child: what the node defines at its left symbol and at the earlier children is wired. Assumes nothing.
-use Prim.Native.Nat.{ℕ, zero, suc, _+_, _-_, _*_, _/_, _%_, _≤_, _<_, zero-le}
+use Prim.Native.Nat.{ℕ, zero, suc, _+_, _-_, _*_, _/_, _≤_, _<_}
 use mathlib.Core.Path.{_≡_, ap, _∙_}
 use mathlib.Core.List.{List}
 use native.Mathlib.Omega.{arith}
 use lib.ListN.{length, getD}
 use borrow.Author.Needs.{needs}
-use Rattle.table.specs.Words.{childCount, synthesized, inherited, leftOf, defined}
+use Rattle.table.specs.Words.{childCount, inherited, leftOf}
 use Rattle.table.proofs.Limits.{limits}
 use Rattle.wire.specs.Instances.{spot}
-use Rattle.wire.specs.Turns.{Sets, Partly, Stay, firstIndex}
+use Rattle.wire.specs.Inner.Turns.{Partly, Stay, firstIndex}
 use Rattle.wire.proofs.Places.{number-in}
 use Rattle.wire.proofs.Rooms.{stay-refl, stay-trans, stay-room}
-use Rattle.wire.proofs.Turning.{few-children, shaped, spot-below, symbol-small, child-sets, skip-rest}
+use Rattle.wire.proofs.Turning.{few-children, spot-below, symbol-small, child-sets, skip-rest}
 use Rattle.wire.proofs.wire_children.Statement.{statement}
 use Rattle.wire.proofs.wire_children.Tie as tie
 
@@ -23,13 +23,13 @@ Inv-loop table productions beyond named q children a₀ b₀ left₀ rule₀ p l
 abbrev μ-loop : tie.MeasureT-loop
 μ-loop table productions beyond named q children a₀ b₀ left₀ rule₀ p last number₀ heads₀ at₀ a b left rule number heads at = last - number
 
-abbrev st : tie.After-wide Inv-loop μ-loop → tie.Start Inv-loop μ-loop
+abbrev st : tie.After-index Inv-loop μ-loop → tie.Start Inv-loop μ-loop
 st w = w .before .before .before .before .before .before .before
 
-abbrev nth : tie.At-loop Inv-loop μ-loop → tie.After-wide Inv-loop μ-loop
+abbrev nth : tie.At-loop Inv-loop μ-loop → tie.After-index Inv-loop μ-loop
 nth l = l .before
 
-abbrev inside : tie.After-wide16 Inv-loop μ-loop → tie.In-loop Inv-loop μ-loop
+abbrev inside : tie.After-wide Inv-loop μ-loop → tie.In-loop Inv-loop μ-loop
 inside x = x .before .before
 
 abbrev looked : tie.After-wire-sets-arg4 Inv-loop μ-loop → tie.After-inherited-of Inv-loop μ-loop
@@ -49,17 +49,17 @@ module _ (s : tie.Start Inv-loop μ-loop) where
   number-at m h = omega (arith, number-in t ns (s .pre .0 .judged) (s .pre .0 .sound) m h, limits t (s .pre .0 .judged) .productions)
 
 -- the node's production and its children
-module _ (n : tie.After-wide Inv-loop μ-loop) where
+module _ (n : tie.After-index Inv-loop μ-loop) where
   abbrev s : tie.Start Inv-loop μ-loop
   s = st n
 
-  production : n .wide .result ≡ getD (ns s) (s .args .q) 0
-  production = n .wide .ensures .0
+  production : n .index .result ≡ getD (ns s) (s .args .q) 0
+  production = n .index .ensures .0
 
   counted : s .args .children ≡ childCount (t s) (getD (ns s) (s .args .q) 0)
   counted = s .pre .1 .1 .0
 
-  few : (n .wide .result < 64) × (s .args .children ≤ 4)
+  few : (n .index .result < 64) × (s .args .children ≤ 4)
   few = (omega (arith, production, number-at s (s .args .q) (s .pre .1 .0)), omega (arith, counted, few-children (t s) (ns s) (s .pre .0) (s .args .q) (s .pre .1 .0)))
 
 first-is : (at : ℕ) → 1 ≤ at → firstIndex at ≡ 4
@@ -70,7 +70,7 @@ module _ (c : tie.In-loop Inv-loop μ-loop) where
   abbrev l : tie.At-loop Inv-loop μ-loop
   l = c .before
 
-  abbrev n : tie.After-wide Inv-loop μ-loop
+  abbrev n : tie.After-index Inv-loop μ-loop
   n = nth l
 
   abbrev o : tie.Start Inv-loop μ-loop
@@ -85,21 +85,21 @@ module _ (c : tie.In-loop Inv-loop μ-loop) where
   positions : at ≤ 4
   positions = omega (arith, within, counted n, few n)
 
-module _ (x : tie.After-wide16 Inv-loop μ-loop) where
+module _ (x : tie.After-wide Inv-loop μ-loop) where
   abbrev c : tie.In-loop Inv-loop μ-loop
   c = inside x
 
   -- the first instance of the node at the position
-  slot : x .wide16 .result ≡ 8 * spot (t (o c)) (ns (o c)) (o c .args .q) (at c)
+  slot : x .wide .result ≡ 8 * spot (t (o c)) (ns (o c)) (o c .args .q) (at c)
   slot =
       let z : 256 * at c + 0 ≡ 256 * at c = omega arith in
       let w = o c .pre .1 .1 .1 .1 .0 .names (at c) 0 (within c) (omega arith) in
-      x .wide16 .ensures ∙ omega (arith, rw z at w)
+      x .wide .ensures ∙ omega (arith, rw z at w)
 
-  node : x .wide16 .result / 8 ≡ spot (t (o c)) (ns (o c)) (o c .args .q) (at c)
+  node : x .wide .result / 8 ≡ spot (t (o c)) (ns (o c)) (o c .args .q) (at c)
   node = omega (arith, slot)
 
-  node-in : x .wide16 .result / 8 < length (ns (o c))
+  node-in : x .wide .result / 8 < length (ns (o c))
   node-in = rw node (spot-below (t (o c)) (ns (o c)) (o c .pre .0) (o c .args .q) (o c .pre .1 .0) (at c) (within c))
 
 symbol-is : (g : tie.After-left-of Inv-loop μ-loop) → let i = c (g .before .before .before) in
@@ -107,7 +107,7 @@ symbol-is : (g : tie.After-left-of Inv-loop μ-loop) → let i = c (g .before .b
 symbol-is g =
     let x = g .before .before .before in
     let i = c x in
-    g .left-of .ensures ∙ ap (leftOf (t (o i))) (g .before .wide2 .ensures .0 ∙ ap (λ m. getD (ns (o i)) m 0) (node x))
+    g .left-of .ensures ∙ ap (leftOf (t (o i))) (g .before .index2 .ensures .0 ∙ ap (λ m. getD (ns (o i)) m 0) (node x))
 
 other : tie.Need-wire-sets-requires Inv-loop μ-loop
 other k κs =
@@ -176,7 +176,7 @@ wire-children-spec =
     (λ c κs. search needs)
     (λ k. node-in (k .before))
     (λ k κs. search needs)
-    (λ k κs. let x = k .before .before in rw (k .wide2 .ensures .0) (number-at (o (c x)) (x .wide16 .result / 8) (node-in x)))
+    (λ k κs. let x = k .before .before in rw (k .index2 .ensures .0) (number-at (o (c x)) (x .wide .result / 8) (node-in x)))
     (λ k. let x = k .before .before .before in omega (arith, node-in x, o (c x) .pre .0 .few))
     (λ k κs. let i = c (k .before .before .before) in rw (symbol-is k) (symbol-small (t (o i)) (ns (o i)) (o i .pre .0) (o i .args .q) (o i .pre .1 .0) (at i) (within i)))
     other

@@ -1,18 +1,18 @@
 -- Position 0: its sets are those of the node's own symbol. Assumes nothing.
-use Prim.Native.Nat.{ℕ, _+_, _*_, _%_, _≤_, _<_, zero-le}
+use Prim.Native.Nat.{ℕ, _+_, _*_, _<_, zero-le}
 use mathlib.Core.Path.{_≡_, ap, _∙_}
 use mathlib.Core.List.{List}
 use native.Mathlib.Omega.{arith}
-use lib.ListN.{length, getD}
+use lib.ListN.{getD}
 use borrow.Author.Needs.{needs}
 use Rattle.table.specs.Words.{synthesized, leftOf, defined}
 use Rattle.table.proofs.Limits.{limits}
 use Rattle.wire.proofs.Places.{number-in}
-use Rattle.wire.proofs.Turning.{shaped, symbol-small}
+use Rattle.wire.proofs.Turning.{symbol-small}
 use Rattle.wire.proofs.wire_left.Statement.{statement}
 use Rattle.wire.proofs.wire_left.Tie as tie
 
-module _ (w : tie.After-wide) where
+module _ (w : tie.After-index) where
   abbrev s : tie.Start
   s = w .before .before .before .before .before .before .before
 
@@ -22,10 +22,10 @@ module _ (w : tie.After-wide) where
   abbrev ns : List ℕ
   ns = s .args .productions .now
 
-  production : w .wide .result ≡ getD ns (s .args .q) 0
-  production = w .wide .ensures .0
+  production : w .index .result ≡ getD ns (s .args .q) 0
+  production = w .index .ensures .0
 
-  few : w .wide .result < 64
+  few : w .index .result < 64
   few = omega (arith, production, number-in t ns (s .pre .0 .judged) (s .pre .0 .sound) (s .args .q) (s .pre .1 .0), limits t (s .pre .0 .judged) .productions)
 
 symbol : (g : tie.After-left-of) → g .left-of .result < 32
@@ -33,14 +33,10 @@ symbol g =
     let w = g .before in
     rw (g .left-of .ensures, production w) (symbol-small (t w) (ns w) (s w .pre .0) (s w .args .q) (s w .pre .1 .0) 0 zero-le)
 
-every-set : (c : tie.After-synthesized-of) → let w = c .before .before in c .synthesized-of .result % 256 ≡ defined (t w) (getD (ns w) (s w .args .q) 0) 0
+every-set : (c : tie.After-synthesized-of) → let w = c .before .before in c .synthesized-of .result ≡ defined (t w) (getD (ns w) (s w .args .q) 0) 0
 every-set c =
     let w = c .before .before in
-    let e : c .synthesized-of .result ≡ synthesized (t w) (leftOf (t w) (getD (ns w) (s w .args .q) 0)) = c .synthesized-of .ensures ∙ ap (synthesized (t w)) (c .before .left-of .ensures ∙ ap (leftOf (t w)) (production w)) in
-    let f : defined (t w) (getD (ns w) (s w .args .q) 0) 0 ≤ 4 = shaped (t w) (ns w) (s w .pre .0) (s w .args .q) (s w .pre .1 .0) .few 0 zero-le in
-    let g : c .synthesized-of .result ≤ 4 = rw e f in
-    let h : c .synthesized-of .result % 256 ≡ c .synthesized-of .result = omega (arith, g) in
-    h ∙ e
+    c .synthesized-of .ensures ∙ ap (synthesized (t w)) (c .before .left-of .ensures ∙ ap (leftOf (t w)) (production w))
 
 sets : tie.Need-wire-sets-requires
 sets c κs =

@@ -1,5 +1,5 @@
 -- Set by set of a position: the instances with turns before the next set's are wired, and from the last slot on nothing has changed. Assumes nothing.
-use Prim.Native.Nat.{ℕ, zero, suc, _+_, _-_, _*_, _≤_, _<_}
+use Prim.Native.Nat.{ℕ, _+_, _-_, _*_, _≤_, _<_}
 use mathlib.Core.Path.{_≡_, refl, ap, _∙_}
 use mathlib.Core.List.{List}
 use native.Mathlib.Nat.{add-zero}
@@ -9,7 +9,7 @@ use Rattle.table.specs.Words.{defined, ruleOf, headAt}
 use Rattle.table.specs.Same.{Has}
 use Rattle.table.proofs.Limits.{limits}
 use Rattle.wire.specs.Instances.{spot}
-use Rattle.wire.specs.Turns.{Room, Sets, Partly, Stay, firstIndex}
+use Rattle.wire.specs.Inner.Turns.{Room, Sets, Partly, Stay, firstIndex}
 use Rattle.wire.proofs.Places.{number-in}
 use Rattle.wire.proofs.Rooms.{stay-refl, stay-set, stay-room}
 use Rattle.wire.proofs.Reading.{op-known, fit-first, fit-second, first-read, second-read}

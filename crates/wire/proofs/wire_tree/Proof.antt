@@ -3,7 +3,7 @@ use Prim.Native.Nat.{_-_, _*_, _≤_}
 use mathlib.Core.Path.{_≡_, refl}
 use native.Mathlib.Omega.{arith}
 use lib.ListN.{length}
-use Rattle.wire.specs.Turns.{Own, Partly, Stay}
+use Rattle.wire.specs.Inner.Turns.{Own, Partly, Stay}
 use Rattle.wire.proofs.Rooms.{stay-refl, stay-trans, stay-room, blank-partly}
 use Rattle.wire.proofs.Reading.{beyond-is}
 use Rattle.wire.proofs.Ending.{wired-of}

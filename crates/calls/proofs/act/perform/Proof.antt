@@ -6,10 +6,10 @@ use Rattle.calls.proofs.act.perform.Statement.{statement}
 use Rattle.calls.proofs.act.perform.Tie as tie
 
 abbrev Inv-loop : tie.InvT-loop
-Inv-loop tape nodes owns count point table held₀ held-owns₀ sets₀ before₀ r₀ i₀ i-end held held-owns sets before r i = Unit {0}
+Inv-loop tape nodes owns count point table held₀ held-owns₀ sets₀ before₀ r₀ i₀ i-end held held-owns sets earlier r i = Unit {0}
 
 abbrev μ-loop : tie.MeasureT-loop
-μ-loop tape nodes owns count point table held₀ held-owns₀ sets₀ before₀ r₀ i₀ i-end held held-owns sets before r i = i-end - i
+μ-loop tape nodes owns count point table held₀ held-owns₀ sets₀ before₀ r₀ i₀ i-end held held-owns sets earlier r i = i-end - i
 
 pub perform-spec : {M : Type 1} → statement M
 perform-spec =

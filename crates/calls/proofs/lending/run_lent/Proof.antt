@@ -47,11 +47,11 @@ use denote.Exit.{yes}
 use denote.Signature.{plain}
 use Rattle.update.specs.declared.Record.{Record}
 use Rattle.update.specs.declared.Run.{Run}
-use Rattle.steps.specs.declared.run.Advanced.{Advanced}
+use Rattle.update_step.specs.declared.run.Ran.{Ran}
 use Rattle.update.proofs.Record as T
 use Rattle.update.proofs.Record.Laws as T′
-use Rattle.steps.proofs.run.Advanced as D
-use Rattle.steps.proofs.run.Advanced.Laws as D′
+use Rattle.update_step.proofs.run.Ran as D
+use Rattle.update_step.proofs.run.Ran.Laws as D′
 use Rattle.update.proofs.Run as S
 use Rattle.update.proofs.Run.Laws as S′
 use Rattle.engine.specs.Lent.{RunLeaves}
@@ -91,7 +91,7 @@ sl x = sliceVal (x .ptr) (length (x .now))
 abbrev said : Run → Val
 said a = EL.val S.the-type S′.the-laws a
 
-abbrev both : Run → Record → Advanced
+abbrev both : Run → Record → Ran
 both a r = record { answer = a; «record» = r }
 
 abbrev pair : Run → Record → Val
@@ -116,16 +116,16 @@ module _ {M : Type 1} (𝓤 : URA M) (H : Heap 𝓤) (A : Atoms 𝓤) (W : Given
       spelt ! T.the-row (Is T.the-row) (shows 𝓤 H A T.the-row) (LL.vals T.the-type T′.the-laws) (LL.tells T.the-type T′.the-laws) fullShare r vs l 0 $
       move ! (1 ∷ []) $ facts ! T.the-row (Is T.the-row) (shows 𝓤 H A T.the-row) r (mach r ∷ []) (λ g. check ! g $ use1 W (‵ Cell) (W .laws .raw-at fullShare T′.mir l 0 (mach r)) $ done !))
 
-module _ {M : Type 1} (𝓤 : URA M) (H : Heap 𝓤) (A : Atoms 𝓤) (W : Given 𝓤 H A) (at-mem : Memory → SProp 𝓤) (go : Routine → Fun 𝓤) (κ₁ κ₂ : Lft) (bounds : AllOutlive 2 (lent.signature .outlives) (κ₁, (κ₂, tt))) (q₁ q₂ : Share) (h : Record) (table held owned-sets sets before : RefT (List ℕ)) (n : ℕ)
-    (is-table : Is (ShrRef (named 0) κ₁ words) table (vptr (table .ptr .0) (table .ptr .1) ∷ [])) (is-record : Is T.the-row h (mach h ∷ [])) (is-held : Is (ShrSlice (named 0) κ₁ u8) held (sl held ∷ [])) (is-owned : Is (ShrSlice (named 0) κ₁ u64) owned-sets (sl owned-sets ∷ [])) (is-sets : Is (MutSlice (named 1) κ₂ u64) sets (sl sets ∷ [])) (is-before : Is (ShrSlice (named 0) κ₁ u64) before (sl before ∷ [])) (n-fits : n < 2 ^ 64) where
+module _ {M : Type 1} (𝓤 : URA M) (H : Heap 𝓤) (A : Atoms 𝓤) (W : Given 𝓤 H A) (at-mem : Memory → SProp 𝓤) (go : Routine → Fun 𝓤) (κ₁ κ₂ : Lft) (bounds : AllOutlive 2 (lent.signature .outlives) (κ₁, (κ₂, tt))) (q₁ q₂ : Share) (h : Record) (table held owned-sets sets earlier : RefT (List ℕ)) (n : ℕ)
+    (is-table : Is (ShrRef (named 0) κ₁ words) table (vptr (table .ptr .0) (table .ptr .1) ∷ [])) (is-record : Is T.the-row h (mach h ∷ [])) (is-held : Is (ShrSlice (named 0) κ₁ u8) held (sl held ∷ [])) (is-owned : Is (ShrSlice (named 0) κ₁ u64) owned-sets (sl owned-sets ∷ [])) (is-sets : Is (MutSlice (named 1) κ₂ u64) sets (sl sets ∷ [])) (is-before : Is (ShrSlice (named 0) κ₁ u64) earlier (sl earlier ∷ [])) (n-fits : n < 2 ^ 64) where
   abbrev Behind : Type 0
   Behind = RefT (List ℕ) × (RefT (List ℕ) × (RefT (List ℕ) × (RefT (List ℕ) × (ℕ × Unit {0}))))
 
   abbrev behind : Behind
-  behind = (held, (owned-sets, (sets, (before, (n, tt)))))
+  behind = (held, (owned-sets, (sets, (earlier, (n, tt)))))
 
   abbrev vals-behind : List Val × (List Val × (List Val × (List Val × (List Val × Unit {0}))))
-  vals-behind = (sl held ∷ [], (sl owned-sets ∷ [], (sl sets ∷ [], (sl before ∷ [], (vint w64 n ∷ [], tt)))))
+  vals-behind = (sl held ∷ [], (sl owned-sets ∷ [], (sl sets ∷ [], (sl earlier ∷ [], (vint w64 n ∷ [], tt)))))
 
   abbrev at-table : List Val
   at-table = vptr (table .ptr .0) (table .ptr .1) ∷ []
@@ -150,7 +150,7 @@ module _ {M : Type 1} (𝓤 : URA M) (H : Heap 𝓤) (A : Atoms 𝓤) (W : Given
   O = ShrSlice (named 0) κ₁ u64 .own owned-sets (sl owned-sets ∷ [])
 
   abbrev P : Fml
-  P = ShrSlice (named 0) κ₁ u64 .own before (sl before ∷ [])
+  P = ShrSlice (named 0) κ₁ u64 .own earlier (sl earlier ∷ [])
 
   -- what the parameters own
   abbrev Mine : Fml
@@ -184,7 +184,7 @@ module _ {M : Type 1} (𝓤 : URA M) (H : Heap 𝓤) (A : Atoms 𝓤) (W : Given
         use1 W (‵ B ⊛ ‵ B) (shr-copy 𝓤 H A W (named 0) κ₁ words .twice table _) $ split ! $ move ! (2 ∷ []) $ fsplit ! $ drop ! $ fsplit ! $
         use1 W (‵ N ⊛ ‵ N) (shr-slice-copy 𝓤 H A W (named 0) κ₁ u8 .twice held (sl held ∷ [])) $ split ! $ move ! (2 ∷ []) $ fsplit ! $
         use1 W (‵ O ⊛ ‵ O) (shr-slice-copy 𝓤 H A W (named 0) κ₁ u64 .twice owned-sets (sl owned-sets ∷ [])) $ split ! $ move ! (2 ∷ []) $ fsplit ! $ move ! (1 ∷ []) $ fsplit ! $
-        use1 W (‵ P ⊛ ‵ P) (shr-slice-copy 𝓤 H A W (named 0) κ₁ u64 .twice before (sl before ∷ [])) $ split ! $
+        use1 W (‵ P ⊛ ‵ P) (shr-slice-copy 𝓤 H A W (named 0) κ₁ u64 .twice earlier (sl earlier ∷ [])) $ split ! $
         -- [P; P; the budget; the sets; O; O; N; N; B; B; the new token; the loan; the other tokens]
         move ! (0 ∷ 2 ∷ []) $ fjoin ! $ move ! (2 ∷ 0 ∷ []) $ fjoin ! $ move ! (2 ∷ 0 ∷ []) $ fjoin ! $ move ! (3 ∷ 0 ∷ []) $ fjoin ! $ move ! (4 ∷ 0 ∷ []) $ fjoin ! $ move ! (6 ∷ 0 ∷ []) $ fjoin ! $
         -- [what the callee is passed; what is only read; the tokens]
@@ -192,7 +192,7 @@ module _ {M : Type 1} (𝓤 : URA M) (H : Heap 𝓤) (A : Atoms 𝓤) (W : Given
 
   -- what the callee says of its answer, the last record and the last sets
   abbrev Says : Run → Record → List ℕ → Type 0
-  Says d z ys = RunLeaves (table .now) (held .now) (owned-sets .now) (sets .now) (before .now) h n d z ys
+  Says d z ys = RunLeaves (table .now) (held .now) (owned-sets .now) (sets .now) (earlier .now) h n d z ys
 
   made : (d : Run) (z : Record) → Is S.the-row d (said d ∷ []) → Is T.the-row z (mach z ∷ []) → Is D.the-row (both d z) (pair d z ∷ [])
   made d z is-d is-z = LL.owes D.the-type D′.the-laws (both d z) (is-d, (is-z, tt))
@@ -210,12 +210,12 @@ module _ {M : Type 1} (𝓤 : URA M) (H : Heap 𝓤) (A : Atoms 𝓤) (W : Given
       owned ! D.the-row (Is D.the-row) (LL.makes D.the-type D′.the-plain 𝓤 H A) (both d z) _ is $ done !
 
   module _ (C : Calls 𝓤 H) (Λ : Loops 𝓤 H) (fm : FmC 𝓤 H (W .laws) C) (known : Triple 𝓤 (C #run) (Work 𝓤 H A at-mem go)) where
-    walk : ent 𝓤 (onEntry 𝓤 H A lent.signature (κ₁, (κ₂, tt)) (q₁, (q₂, tt)) a vals) (WpFn 𝓤 H C Λ code.function (vptr (table .ptr .0) (table .ptr .1) ∷ mach h ∷ sl held ∷ sl owned-sets ∷ sl sets ∷ sl before ∷ vint w64 n ∷ []) Post)
+    walk : ent 𝓤 (onEntry 𝓤 H A lent.signature (κ₁, (κ₂, tt)) (q₁, (q₂, tt)) a vals) (WpFn 𝓤 H C Λ code.function (vptr (table .ptr .0) (table .ptr .1) ∷ mach h ∷ sl held ∷ sl owned-sets ∷ sl sets ∷ sl earlier ∷ vint w64 n ∷ []) Post)
     walk =
-        qed W ((‵ (flft κ₁ q₁) ⊛ ‵ (flft κ₂ q₂) ⊛ ‵ ftrue) ∷ ‵ Mine ∷ []) ∵ enter ! C Λ code.function (vptr (table .ptr .0) (table .ptr .1) ∷ mach h ∷ sl held ∷ sl owned-sets ∷ sl sets ∷ sl before ∷ vint w64 n ∷ []) _ $
+        qed W ((‵ (flft κ₁ q₁) ⊛ ‵ (flft κ₂ q₂) ⊛ ‵ ftrue) ∷ ‵ Mine ∷ []) ∵ enter ! C Λ code.function (vptr (table .ptr .0) (table .ptr .1) ∷ mach h ∷ sl held ∷ sl owned-sets ∷ sl sets ∷ sl earlier ∷ vint w64 n ∷ []) _ $
         alloc1 ! (λ l₀. alloc1 ! (λ l₁. alloc1 ! (λ l₂. alloc1 ! (λ l₃. alloc1 ! (λ l₄. alloc1 ! (λ l₅. alloc1 ! (λ l₆. alloc1 ! (λ l₇. alloc1 ! (λ l₈. alloc1 ! (λ l₉. alloc1 ! (λ l₁₀. alloc1 ! (λ l₁₁. alloc1 ! (λ l₁₂. alloc1 ! (λ l₁₃. alloc0 ! $ params1 ! $
         pass1 ! (init ! 24 refl (shr-lawful 𝓤 H A W (named 0) κ₁ words .typed table _ is-table .0)) $ pass1 ! (init ! 22 refl (LL.lawful T.the-type T′.the-laws 𝓤 H A W .typed h _ is-record .0)) $ pass1 ! (init ! 20 refl (shr-slice-lawful 𝓤 H A W (named 0) κ₁ u8 .typed held _ is-held .0)) $ pass1 ! (init ! 18 refl (shr-slice-lawful 𝓤 H A W (named 0) κ₁ u64 .typed owned-sets _ is-owned .0)) $
-        pass1 ! (init ! 16 refl (mut-slice-lawful 𝓤 H A W (named 1) κ₂ u64 .typed sets _ is-sets .0)) $ pass1 ! (init ! 14 refl (shr-slice-lawful 𝓤 H A W (named 0) κ₁ u64 .typed before _ is-before .0)) $ pass1 ! (init ! 12 refl (tt, record { fits = n-fits })) $ pass0 ! $
+        pass1 ! (init ! 16 refl (mut-slice-lawful 𝓤 H A W (named 1) κ₂ u64 .typed sets _ is-sets .0)) $ pass1 ! (init ! 14 refl (shr-slice-lawful 𝓤 H A W (named 0) κ₁ u64 .typed earlier _ is-before .0)) $ pass1 ! (init ! 12 refl (tt, record { fits = n-fits })) $ pass0 ! $
         -- [_13; …; _12 (2); …; _0 (26); …; the tokens; what the parameters own]
         assigns ! (of-opd ! (load ! (from ! (stop !)) (look ! 22 refl))) (from ! (stop !)) (init ! 10 refl (LL.lawful T.the-type T′.the-laws 𝓤 H A W .typed h _ is-record .0)) $
         assigns ! (addr ! (from ! (stop !))) (from ! (stop !)) (init ! 6 refl (tt, tt)) $

@@ -5,10 +5,10 @@ use Rattle.calls.proofs.reading.read_all.Statement.{statement}
 use Rattle.calls.proofs.reading.read_all.Tie as tie
 
 abbrev Inv-loop : tie.InvT-loop
-Inv-loop table «record» held held-owns sets before mark₀ i₀ mark i = Unit {0}
+Inv-loop table «record» held held-owns sets earlier mark₀ i₀ mark i = Unit {0}
 
 abbrev μ-loop : tie.MeasureT-loop
-μ-loop table «record» held held-owns sets before mark₀ i₀ mark i = 4096 - i
+μ-loop table «record» held held-owns sets earlier mark₀ i₀ mark i = 4096 - i
 
 pub read-all-spec : {M : Type 1} → statement M
 read-all-spec =

@@ -8,19 +8,17 @@ use lib.Seq.{length-take-le}
 use Rattle.refusal.specs.declared.Refusal.the-variants.{Undeclared}
 use Rattle.refusal.proofs.Distinct.{sound-zero, refused-number}
 use Rattle.table.proofs.Limits.{limits}
-use Rattle.memory.proofs.Numbered.{judged-numbered}
-use Rattle.wire.specs.Instances.{declared}
-use Rattle.update.specs.Memories.{Memory}
-use Rattle.engine.specs.Lent.{lent}
-use Rattle.judging.proofs.Orders.{Looked, looked, read-past, read-stopped, tree-sound}
+use Rattle.tree.proofs.Numbered.{judged-numbered}
+use Rattle.update.specs.Memories.{lent, Memory}
+use Rattle.update_judge.proofs.Orders.{Looked, looked, read-past, read-stopped, tree-sound}
 use Rattle.engine.proofs.Answers.{read-refused, read-said}
-use Rattle.judging.proofs.Parts.{declared-below}
+use Rattle.update_judge.proofs.Parts.{declared-below}
 use borrow.Author.Needs.{needs}
 use Rattle.engine.proofs.reading.read.Statement.{statement}
 use Rattle.engine.proofs.reading.read.Tie as tie
 
 abbrev memory : tie.Start → Memory
-memory s = lent (s .args .held .now) (s .args .held-owns .now) (s .args .sets .now) (s .args .before .now)
+memory s = lent (s .args .held .now) (s .args .held-owns .now) (s .args .sets .now) (s .args .earlier .now)
 
 abbrev start : tie.After-enum-told → tie.Start
 start c = c .before .before .before .before .before .before .before

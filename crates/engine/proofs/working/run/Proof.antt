@@ -45,11 +45,11 @@ use denote.Exit.{yes}
 use denote.Signature.{plain}
 use Rattle.update.specs.declared.Record.{Record}
 use Rattle.update.specs.declared.Run.{Run}
-use Rattle.steps.specs.declared.run.Advanced.{Advanced}
+use Rattle.update_step.specs.declared.run.Ran.{Ran}
 use Rattle.update.proofs.Record as T
 use Rattle.update.proofs.Record.Laws as T′
-use Rattle.steps.proofs.run.Advanced as D
-use Rattle.steps.proofs.run.Advanced.Laws as D′
+use Rattle.update_step.proofs.run.Ran as D
+use Rattle.update_step.proofs.run.Ran.Laws as D′
 use Rattle.update.proofs.Run as S
 use Rattle.update.proofs.Run.Laws as S′
 use Rattle.engine.specs.Lent.{RunLeaves}
@@ -89,23 +89,23 @@ sl x = sliceVal (x .ptr) (length (x .now))
 abbrev said : Run → Val
 said a = EL.val S.the-type S′.the-laws a
 
-module _ {M : Type 1} (𝓤 : URA M) (H : Heap 𝓤) (A : Atoms 𝓤) (W : Given 𝓤 H A) (at-mem : Memory → SProp 𝓤) (go : Routine → Fun 𝓤) (κ κ₁ κ₂ : Lft) (bounds : AllOutlive 3 (run.signature .outlives) (κ, (κ₁, (κ₂, tt)))) (q q₁ q₂ : Share) (b o : ℕ) (γ : GName) (h : Record) (table held owned-sets sets before : RefT (List ℕ)) (n : ℕ)
-    (is-table : Is (ShrRef (named 1) κ₁ words) table (vptr (table .ptr .0) (table .ptr .1) ∷ [])) (is-held : Is (ShrSlice (named 1) κ₁ u8) held (sl held ∷ [])) (is-owned : Is (ShrSlice (named 1) κ₁ u64) owned-sets (sl owned-sets ∷ [])) (is-sets : Is (MutSlice (named 2) κ₂ u64) sets (sl sets ∷ [])) (is-before : Is (ShrSlice (named 1) κ₁ u64) before (sl before ∷ [])) (n-fits : n < 2 ^ 64) where
+module _ {M : Type 1} (𝓤 : URA M) (H : Heap 𝓤) (A : Atoms 𝓤) (W : Given 𝓤 H A) (at-mem : Memory → SProp 𝓤) (go : Routine → Fun 𝓤) (κ κ₁ κ₂ : Lft) (bounds : AllOutlive 3 (run.signature .outlives) (κ, (κ₁, (κ₂, tt)))) (q q₁ q₂ : Share) (b o : ℕ) (γ : GName) (h : Record) (table held owned-sets sets earlier : RefT (List ℕ)) (n : ℕ)
+    (is-table : Is (ShrRef (named 1) κ₁ words) table (vptr (table .ptr .0) (table .ptr .1) ∷ [])) (is-held : Is (ShrSlice (named 1) κ₁ u8) held (sl held ∷ [])) (is-owned : Is (ShrSlice (named 1) κ₁ u64) owned-sets (sl owned-sets ∷ [])) (is-sets : Is (MutSlice (named 2) κ₂ u64) sets (sl sets ∷ [])) (is-before : Is (ShrSlice (named 1) κ₁ u64) earlier (sl earlier ∷ [])) (n-fits : n < 2 ^ 64) where
   abbrev Arg : Type 0
   Arg = RefT Record × (RefT (List ℕ) × (RefT (List ℕ) × (RefT (List ℕ) × (RefT (List ℕ) × (RefT (List ℕ) × (ℕ × Unit {0}))))))
 
   abbrev a : Arg
-  a = (record { ptr = (b, o); name = γ; now = h }, (table, (held, (owned-sets, (sets, (before, (n, tt)))))))
+  a = (record { ptr = (b, o); name = γ; now = h }, (table, (held, (owned-sets, (sets, (earlier, (n, tt)))))))
 
   abbrev vals : List Val × (List Val × (List Val × (List Val × (List Val × (List Val × (List Val × Unit {0}))))))
-  vals = (vptr b o ∷ [], (vptr (table .ptr .0) (table .ptr .1) ∷ [], (sl held ∷ [], (sl owned-sets ∷ [], (sl sets ∷ [], (sl before ∷ [], (vint w64 n ∷ [], tt)))))))
+  vals = (vptr b o ∷ [], (vptr (table .ptr .0) (table .ptr .1) ∷ [], (sl held ∷ [], (sl owned-sets ∷ [], (sl sets ∷ [], (sl earlier ∷ [], (vint w64 n ∷ [], tt)))))))
 
   abbrev Post : Val → SProp 𝓤
   Post = walkOf 𝓤 H A run.ended stayed (run.clauses 𝓤 H A at-mem go) .post (((κ, (κ₁, (κ₂, tt))), (q, (q₁, (q₂, tt))), bounds, a, vals), tt)
 
   -- what the callee is passed, and what its triple binds outside
   abbrev to : Work 𝓤 H A at-mem go .Ghost
-  to = (((κ₁, (κ₂, tt)), (q₁, (q₂, tt)), tt, (table, (h, (held, (owned-sets, (sets, (before, (n, tt))))))), (vptr (table .ptr .0) (table .ptr .1) ∷ [], (mach h ∷ [], vals .1 .1))), tt)
+  to = (((κ₁, (κ₂, tt)), (q₁, (q₂, tt)), tt, (table, (h, (held, (owned-sets, (sets, (earlier, (n, tt))))))), (vptr (table .ptr .0) (table .ptr .1) ∷ [], (mach h ∷ [], vals .1 .1))), tt)
 
   -- what is only read: the table, the nodes, their own sets, the before values
   abbrev B : Fml
@@ -118,14 +118,14 @@ module _ {M : Type 1} (𝓤 : URA M) (H : Heap 𝓤) (A : Atoms 𝓤) (W : Given
   O = ShrSlice (named 1) κ₁ u64 .own owned-sets (sl owned-sets ∷ [])
 
   abbrev P : Fml
-  P = ShrSlice (named 1) κ₁ u64 .own before (sl before ∷ [])
+  P = ShrSlice (named 1) κ₁ u64 .own earlier (sl earlier ∷ [])
 
   -- what the parameters behind the record own
   abbrev Rest : Fml
   Rest = owns (ShrRef (named 1) κ₁ words ∷ ShrSlice (named 1) κ₁ u8 ∷ ShrSlice (named 1) κ₁ u64 ∷ MutSlice (named 2) κ₂ u64 ∷ ShrSlice (named 1) κ₁ u64 ∷ u64 ∷ []) (a .1) (vals .1)
 
-  asked : ent 𝓤 (onEntry 𝓤 H A work.signature (κ₁, (κ₂, tt)) (q₁, (q₂, tt)) (table, (h, (held, (owned-sets, (sets, (before, (n, tt))))))) (vptr (table .ptr .0) (table .ptr .1) ∷ [], (mach h ∷ [], vals .1 .1))) (Work 𝓤 H A at-mem go .pre to)
-  asked = qed W ((‵ (flft κ₁ q₁) ⊛ ‵ (flft κ₂ q₂) ⊛ ‵ ftrue) ∷ ‵ (owns (ShrRef (named 0) κ₁ words ∷ T.the-row ∷ ShrSlice (named 0) κ₁ u8 ∷ ShrSlice (named 0) κ₁ u64 ∷ MutSlice (named 1) κ₂ u64 ∷ ShrSlice (named 0) κ₁ u64 ∷ u64 ∷ []) (table, (h, (held, (owned-sets, (sets, (before, (n, tt))))))) (vptr (table .ptr .0) (table .ptr .1) ∷ [], (mach h ∷ [], vals .1 .1))) ∷ []) ∵ join ! $ frame ! $ done !
+  asked : ent 𝓤 (onEntry 𝓤 H A work.signature (κ₁, (κ₂, tt)) (q₁, (q₂, tt)) (table, (h, (held, (owned-sets, (sets, (earlier, (n, tt))))))) (vptr (table .ptr .0) (table .ptr .1) ∷ [], (mach h ∷ [], vals .1 .1))) (Work 𝓤 H A at-mem go .pre to)
+  asked = qed W ((‵ (flft κ₁ q₁) ⊛ ‵ (flft κ₂ q₂) ⊛ ‵ ftrue) ∷ ‵ (owns (ShrRef (named 0) κ₁ words ∷ T.the-row ∷ ShrSlice (named 0) κ₁ u8 ∷ ShrSlice (named 0) κ₁ u64 ∷ MutSlice (named 1) κ₂ u64 ∷ ShrSlice (named 0) κ₁ u64 ∷ u64 ∷ []) (table, (h, (held, (owned-sets, (sets, (earlier, (n, tt))))))) (vptr (table .ptr .0) (table .ptr .1) ∷ [], (mach h ∷ [], vals .1 .1))) ∷ []) ∵ join ! $ frame ! $ done !
 
   goes : Is T.the-row h (mach h ∷ []) → ent 𝓤 (⋆ 𝓤 H A ((‵ (flft κ₁ q₁) ⊛ ‵ (flft κ₂ q₂) ⊛ ‵ ftrue) ∷ ‵ Rest ∷ [])) (sep 𝓤 (Work 𝓤 H A at-mem go .pre to) (sep 𝓤 (sem 𝓤 H A B) (sep 𝓤 (sem 𝓤 H A N) (sep 𝓤 (sem 𝓤 H A O) (sem 𝓤 H A P)))))
   goes g =
@@ -133,17 +133,17 @@ module _ {M : Type 1} (𝓤 : URA M) (H : Heap 𝓤) (A : Atoms 𝓤) (W : Given
       use1 W (‵ B ⊛ ‵ B) (shr-copy 𝓤 H A W (named 1) κ₁ words .twice table _) $ split ! $ move ! (2 ∷ []) $ fsplit ! $
       use1 W (‵ N ⊛ ‵ N) (shr-slice-copy 𝓤 H A W (named 1) κ₁ u8 .twice held (sl held ∷ [])) $ split ! $ move ! (2 ∷ []) $ fsplit ! $
       use1 W (‵ O ⊛ ‵ O) (shr-slice-copy 𝓤 H A W (named 1) κ₁ u64 .twice owned-sets (sl owned-sets ∷ [])) $ split ! $ move ! (2 ∷ []) $ fsplit ! $ move ! (1 ∷ []) $ fsplit ! $
-      use1 W (‵ P ⊛ ‵ P) (shr-slice-copy 𝓤 H A W (named 1) κ₁ u64 .twice before (sl before ∷ [])) $ split ! $
+      use1 W (‵ P ⊛ ‵ P) (shr-slice-copy 𝓤 H A W (named 1) κ₁ u64 .twice earlier (sl earlier ∷ [])) $ split ! $
       move ! (0 ∷ 2 ∷ []) $ fjoin ! $ move ! (2 ∷ 0 ∷ []) $ fjoin ! $ move ! (2 ∷ 0 ∷ []) $ fjoin ! $ move ! (3 ∷ 0 ∷ []) $ fjoin ! $
       owned ! T.the-row (Is T.the-row) (LL.makes T.the-type T′.the-plain 𝓤 H A) h _ g $ fjoin ! $ move ! (4 ∷ 0 ∷ []) $ fjoin ! $
       -- [what the callee is passed; what is only read; the tokens]
       move ! (5 ∷ 0 ∷ []) $ use2 W (raw (Work 𝓤 H A at-mem go .pre to)) asked $ frame ! $ move ! (3 ∷ []) $ frame ! $ move ! (2 ∷ []) $ frame ! $ move ! (1 ∷ []) $ frame ! $ done !
 
   -- what the callee says of its result d and the last sets
-  abbrev Says : Advanced → List ℕ → Type 0
-  Says d ys = RunLeaves (table .now) (held .now) (owned-sets .now) (sets .now) (before .now) h n (d .answer) (d .«record») ys
+  abbrev Says : Ran → List ℕ → Type 0
+  Says d ys = RunLeaves (table .now) (held .now) (owned-sets .now) (sets .now) (earlier .now) h n (d .answer) (d .«record») ys
 
-  exits : (d : Advanced) (ys : List ℕ) → Says d ys → length ys ≡ length (sets .now) → Is S.the-row (d .answer) (said (d .answer) ∷ [])
+  exits : (d : Ran) (ys : List ℕ) → Says d ys → length ys ≡ length (sets .now) → Is S.the-row (d .answer) (said (d .answer) ∷ [])
       → ent 𝓤 (⋆ 𝓤 H A (‵ (fobs γ (T.the-row .coded .code (d .«record»))) ∷ ‵ (fbor κ (Body (mem T.the-row) b o γ)) ∷ ‵ (flft κ q) ∷ (‵ (flft κ₁ q₁) ⊛ ‵ (flft κ₂ q₂) ⊛ ‵ ftrue) ∷ ‵ (finally u64 (sets .name) ys) ∷ (‵ B ⊛ ‵ N ⊛ ‵ O ⊛ ‵ P) ∷ [])) (Post (said (d .answer)))
   exits d ys e l is =
       qed W (‵ (fobs γ (T.the-row .coded .code (d .«record»))) ∷ ‵ (fbor κ (Body (mem T.the-row) b o γ)) ∷ ‵ (flft κ q) ∷ (‵ (flft κ₁ q₁) ⊛ ‵ (flft κ₂ q₂) ⊛ ‵ ftrue) ∷ ‵ (finally u64 (sets .name) ys) ∷ (‵ B ⊛ ‵ N ⊛ ‵ O ⊛ ‵ P) ∷ []) ∵
@@ -156,12 +156,12 @@ module _ {M : Type 1} (𝓤 : URA M) (H : Heap 𝓤) (A : Atoms 𝓤) (W : Given
       owned ! S.the-row (Is S.the-row) (EL.makes S.the-type S′.the-plain 𝓤 H A) (d .answer) _ is $ done !
 
   module _ (C : Calls 𝓤 H) (Λ : Loops 𝓤 H) (fm : FmC 𝓤 H (W .laws) C) (known : Triple 𝓤 (C #run-record) (Work 𝓤 H A at-mem go)) where
-    walk : ent 𝓤 (onEntry 𝓤 H A run.signature (κ, (κ₁, (κ₂, tt))) (q, (q₁, (q₂, tt))) a vals) (WpFn 𝓤 H C Λ code.function (vptr b o ∷ vptr (table .ptr .0) (table .ptr .1) ∷ sl held ∷ sl owned-sets ∷ sl sets ∷ sl before ∷ vint w64 n ∷ []) Post)
+    walk : ent 𝓤 (onEntry 𝓤 H A run.signature (κ, (κ₁, (κ₂, tt))) (q, (q₁, (q₂, tt))) a vals) (WpFn 𝓤 H C Λ code.function (vptr b o ∷ vptr (table .ptr .0) (table .ptr .1) ∷ sl held ∷ sl owned-sets ∷ sl sets ∷ sl earlier ∷ vint w64 n ∷ []) Post)
     walk =
-        qed W ((‵ (flft κ q) ⊛ ‵ (flft κ₁ q₁) ⊛ ‵ (flft κ₂ q₂) ⊛ ‵ ftrue) ∷ ‵ (owns (MutRef (named 0) κ T.the-row ∷ ShrRef (named 1) κ₁ words ∷ ShrSlice (named 1) κ₁ u8 ∷ ShrSlice (named 1) κ₁ u64 ∷ MutSlice (named 2) κ₂ u64 ∷ ShrSlice (named 1) κ₁ u64 ∷ u64 ∷ []) a vals) ∷ []) ∵ enter ! C Λ code.function (vptr b o ∷ vptr (table .ptr .0) (table .ptr .1) ∷ sl held ∷ sl owned-sets ∷ sl sets ∷ sl before ∷ vint w64 n ∷ []) _ $
+        qed W ((‵ (flft κ q) ⊛ ‵ (flft κ₁ q₁) ⊛ ‵ (flft κ₂ q₂) ⊛ ‵ ftrue) ∷ ‵ (owns (MutRef (named 0) κ T.the-row ∷ ShrRef (named 1) κ₁ words ∷ ShrSlice (named 1) κ₁ u8 ∷ ShrSlice (named 1) κ₁ u64 ∷ MutSlice (named 2) κ₂ u64 ∷ ShrSlice (named 1) κ₁ u64 ∷ u64 ∷ []) a vals) ∷ []) ∵ enter ! C Λ code.function (vptr b o ∷ vptr (table .ptr .0) (table .ptr .1) ∷ sl held ∷ sl owned-sets ∷ sl sets ∷ sl earlier ∷ vint w64 n ∷ []) _ $
         alloc1 ! (λ l₀. alloc1 ! (λ l₁. alloc1 ! (λ l₂. alloc1 ! (λ l₃. alloc1 ! (λ l₄. alloc1 ! (λ l₅. alloc1 ! (λ l₆. alloc1 ! (λ l₇. alloc1 ! (λ l₈. alloc1 ! (λ l₉. alloc1 ! (λ l₁₀. alloc1 ! (λ l₁₁. alloc0 ! $ params1 ! $
         pass1 ! (init ! 20 refl (tt, tt)) $ pass1 ! (init ! 18 refl (shr-lawful 𝓤 H A W (named 1) κ₁ words .typed table _ is-table .0)) $ pass1 ! (init ! 16 refl (shr-slice-lawful 𝓤 H A W (named 1) κ₁ u8 .typed held _ is-held .0)) $ pass1 ! (init ! 14 refl (shr-slice-lawful 𝓤 H A W (named 1) κ₁ u64 .typed owned-sets _ is-owned .0)) $
-        pass1 ! (init ! 12 refl (mut-slice-lawful 𝓤 H A W (named 2) κ₂ u64 .typed sets _ is-sets .0)) $ pass1 ! (init ! 10 refl (shr-slice-lawful 𝓤 H A W (named 1) κ₁ u64 .typed before _ is-before .0)) $ pass1 ! (init ! 8 refl (tt, record { fits = n-fits })) $ pass0 ! $
+        pass1 ! (init ! 12 refl (mut-slice-lawful 𝓤 H A W (named 2) κ₂ u64 .typed sets _ is-sets .0)) $ pass1 ! (init ! 10 refl (shr-slice-lawful 𝓤 H A W (named 1) κ₁ u64 .typed earlier _ is-before .0)) $ pass1 ! (init ! 8 refl (tt, record { fits = n-fits })) $ pass0 ! $
         -- the borrow of the record is opened
         move ! (25 ∷ []) $ fsplit ! $ fsplit3 ! $ drop ! $ move ! (27 ∷ []) $ split ! $ move ! (2 ∷ 3 ∷ 0 ∷ []) $
         opens ! tt T.the-row {h = h} b o (λ vs. spelt ! T.the-row (Is T.the-row) (shows 𝓤 H A T.the-row) (LL.vals T.the-type T′.the-laws) (LL.tells T.the-type T′.the-laws) fullShare h vs b o $
@@ -173,9 +173,9 @@ module _ {M : Type 1} (𝓤 : URA M) (H : Heap 𝓤) (A : Atoms 𝓤) (W : Given
         -- the call: what is lent and the tokens go to the callee
         move ! (5 ∷ 6 ∷ []) $ use2 W (raw (Work 𝓤 H A at-mem go .pre to) ⊛ (‵ B ⊛ ‵ N ⊛ ‵ O ⊛ ‵ P)) (goes g) $ split ! $
         calls-at ! fm (Work 𝓤 H A at-mem go) known to (and-then ! (load ! (from ! (stop !)) (look ! 25 refl)) (and-then ! (load ! (from ! (stop !)) (look ! 13 refl)) (and-then ! (load ! (from ! (stop !)) (look ! 23 refl)) (and-then ! (load ! (from ! (stop !)) (look ! 21 refl)) (and-then ! (load ! (from ! (stop !)) (look ! 7 refl)) (and-then ! (load ! (from ! (stop !)) (look ! 17 refl)) (and-then ! (load ! (from ! (stop !)) (look ! 15 refl)) (no-more !)))))))) (λ w.
-        use1 W (later (some (λ (d : Advanced). ((‵ (flft κ₁ q₁) ⊛ ‵ (flft κ₂ q₂) ⊛ ‵ ftrue) ⊛ ‵ (D.the-row .own d (w ∷ []))) ⊛ raw (ensured 𝓤 H A work.ended (work.clauses 𝓤 H A at-mem go) (κ₁, (κ₂, tt)) (table, (h, (held, (owned-sets, (sets, (before, (n, tt))))))) tt d)))) (id⊢ 𝓤 _) $ await ! tt $ pick ! (λ d.
+        use1 W (later (some (λ (d : Ran). ((‵ (flft κ₁ q₁) ⊛ ‵ (flft κ₂ q₂) ⊛ ‵ ftrue) ⊛ ‵ (D.the-row .own d (w ∷ []))) ⊛ raw (ensured 𝓤 H A work.ended (work.clauses 𝓤 H A at-mem go) (κ₁, (κ₂, tt)) (table, (h, (held, (owned-sets, (sets, (earlier, (n, tt))))))) tt d)))) (id⊢ 𝓤 _) $ await ! tt $ pick ! (λ d.
         -- what it ensures, at some last sets
-        split ! $ move ! (1 ∷ []) $ use1 W (some (λ (zs : Unit {0} × (Unit {0} × (Unit {0} × (Unit {0} × (List ℕ × (Unit {0} × (Unit {0} × Unit {0}))))))). ‵ (lasts work.ended (κ₁, (κ₂, tt)) (table, (h, (held, (owned-sets, (sets, (before, (n, tt))))))) zs) ⊛ raw (fact 𝓤 (Says d (zs .1 .1 .1 .1 .0))))) (id⊢ 𝓤 _) $ pick ! (λ zs.
+        split ! $ move ! (1 ∷ []) $ use1 W (some (λ (zs : Unit {0} × (Unit {0} × (Unit {0} × (Unit {0} × (List ℕ × (Unit {0} × (Unit {0} × Unit {0}))))))). ‵ (lasts work.ended (κ₁, (κ₂, tt)) (table, (h, (held, (owned-sets, (sets, (earlier, (n, tt))))))) zs) ⊛ raw (fact 𝓤 (Says d (zs .1 .1 .1 .1 .0))))) (id⊢ 𝓤 _) $ pick ! (λ zs.
         split ! $ move ! (1 ∷ []) $ heard ! (Says d (zs .1 .1 .1 .1 .0)) (λ e. fsplit ! $ drop ! $ fsplit ! $ drop ! $ fsplit ! $ drop ! $ fsplit ! $ drop ! $
         fsplit ! $ fsplit ! $ move ! (1 ∷ []) $ feqL ! (λ l.
         move ! (2 ∷ []) $ split ! $ move ! (1 ∷ []) $ peeks ! D.the-row (Is D.the-row) (shows 𝓤 H A D.the-row) d (w ∷ []) (λ is.

@@ -22,4 +22,4 @@ child-of-spec =
     (λ c. rw (c .before .match .keys1) (c .number .ensures))
     (λ c. rw (c .before .match .keys2) (c .number2 .ensures))
     (λ c. rw (c .before .match .keys3) (c .number3 .ensures))
-    (λ c. let e : c .before .before .before .args .k ≡ 3 = omega (arith, c .before .match .rest) in rw e (c .number4 .ensures)))
+    (λ c. let e : c .before .before .before .args .k ≡ 3 = omega (arith, c .before .match .rest) in rw e (omega (arith, c .number4 .ensures))))

@@ -1,6 +1,0 @@
-pub mod Desk
-pub mod Ending
-pub mod Gathering
-pub mod Refusals
-pub mod Refused
-pub mod Unique

@@ -1,6 +1,0 @@
-pub mod Orders
-pub mod Tests
-pub mod Parts
-pub mod Walks
-pub mod Outlines
-pub mod Rows

@@ -1,4 +1,0 @@
-pub mod Lent
-pub mod Limits
-pub mod Cuts
-pub mod Order

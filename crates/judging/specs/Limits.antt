@@ -1,8 +1,0 @@
--- What is known of a record's points before their order is judged. Assumes nothing.
-use Prim.Native.Nat.{ℕ, _≤_, _<_}
-use Rattle.tree.specs.Points.{pointAt}
-use Rattle.update.specs.declared.Record.{Record}
-
-pub record Numbers (r : Record) : Type 0 where
-  pub few : r .count ≤ 8
-  pub each : (i : ℕ) → i < 8 → (pointAt (r .points) i .node ≤ 512) × (pointAt (r .points) i .count ≤ 512)

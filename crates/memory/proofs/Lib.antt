@@ -1,8 +1,0 @@
-pub mod Placed
-pub mod Slots
-pub mod Numbered
-pub mod Laying
-pub mod Spliced
-pub mod Arranged
-pub mod Rows
-pub mod Fields

@@ -1,2 +1,0 @@
-// The memory that the caller lends: what a load and a replacement make of it.
-pub mod placing;

@@ -1,0 +1,9 @@
+pub mod Windows
+pub mod Shifts
+pub mod Many
+pub mod Opened
+pub mod Kept
+pub mod Naming
+pub mod Owing
+pub mod Ending
+pub mod Words

@@ -1,8 +1,0 @@
-pub mod Text
-pub mod Putting
-pub mod Read
-pub mod Reading
-pub mod Calls
-pub mod Refused
-pub mod Unique
-pub mod Laws
