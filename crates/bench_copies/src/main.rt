@@ -89,7 +89,10 @@ fn main() {
     let mut text = io::large_buffer();
     let length = io::read_full(STDIN_FILENO, &mut text);
     if stage == 0 {
-        io::write_all(STDOUT_FILENO, b"usage: copies take|read|write < TEXT\n");
+        io::write_all(
+            STDOUT_FILENO,
+            b"usage: bench_copies take|read|write < TEXT\n",
+        );
         return;
     }
     if stage == 1 {

@@ -187,7 +187,7 @@ fn answer(text: &[u8], rank: bool) {
 fn main() {
     let asked = asked();
     if asked == 0 {
-        io::write_all(STDOUT_FILENO, b"usage: ranks rank|read < GRAPH\n");
+        io::write_all(STDOUT_FILENO, b"usage: bench_ranks rank|read < GRAPH\n");
         return;
     }
     let mut text = [0u8; 16386];

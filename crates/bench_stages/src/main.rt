@@ -153,7 +153,7 @@ fn main() {
     if stage == 0 {
         io::write_all(
             STDOUT_FILENO,
-            b"usage: stages judge|spans|wire|rank < TEXT\n",
+            b"usage: bench_stages judge|spans|wire|rank < TEXT\n",
         );
         return;
     }

@@ -11,8 +11,8 @@ use crate::tape::Row;
 use crate::tape::Work;
 use crate::tape::call_of;
 use crate::tell::say;
-use crate::tell::tell_advanced;
 use crate::tell::tell_begun;
+use crate::tell::tell_ran;
 use crate::tell::tell_stepped;
 use engine::Places;
 use engine::Point;
@@ -130,11 +130,11 @@ fn work<'a>(
         Work::Step => tell_stepped(engine::step(table, r, held, held_owns, sets, earlier)),
         Work::Run(budget) => {
             let d = run_lent(table, r, held, held_owns, sets, earlier, budget);
-            tell_advanced(b"run ", budget, d)
+            tell_ran(b"run ", budget, d)
         }
         Work::RunRecord(budget) => {
             let d = engine::run_record(table, r, held, held_owns, sets, earlier, budget);
-            tell_advanced(b"run_record ", budget, d)
+            tell_ran(b"run_record ", budget, d)
         }
     }
 }

@@ -157,9 +157,9 @@ pub fn tell_stepped(stepped: Stepped) -> Record {
 }
 
 // A run, by its name and its budget.
-pub fn tell_advanced(name: &[u8], budget: u64, advanced: Ran) -> Record {
-    let answer = advanced.answer;
-    let next = advanced.record;
+pub fn tell_ran(name: &[u8], budget: u64, ran: Ran) -> Record {
+    let answer = ran.answer;
+    let next = ran.record;
     say_count(name, budget);
     match answer {
         Run::Paused { rounds } => say_count(b": paused, rounds ", rounds),
