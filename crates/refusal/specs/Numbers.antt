@@ -28,7 +28,7 @@ numberOf Waiver = 21
 numberOf Points = 22
 numberOf Overlap = 23
 
--- a verdict as a number: 0 where nothing is refused
+-- 23.10: a verdict as a number, 0 where nothing is refused
 abbrev pub verdictOf : Verdict → ℕ
 verdictOf Sound = 0
 verdictOf (Refused r) = numberOf r

@@ -1,8 +1,7 @@
--- "For every input, the statement of each public call determines the answer and the final contents of the record and all buffers, refused calls too;
--- that no second answer fits is shown". Assumes nothing.
+-- What it is that no second answer fits a call's statement. Assumes nothing.
 use mathlib.Core.Path.{_≡_}
 
--- of all that a call could answer and leave, no two fit its statement
+-- 23.9: of all that a call could answer and leave, no two fit its statement
 pub record Only {A : Type 0} (Fits : A → Type 0) : Type 0 where
   pub one : (a b : A) → Fits a → Fits b → a ≡ b
 

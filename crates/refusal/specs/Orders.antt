@@ -19,7 +19,7 @@ when b n = cond b n 0
 
 -- ---- a check
 
--- an entry of an order: it may give the numbers from `low` to `high`; it gives `given`, or nothing where that is 0; and in words, when it gives n and when nothing.
+-- 15.2: an entry of an order: it may give the numbers from `low` to `high`; it gives `given`, or nothing where that is 0; and in words, when it gives n and when nothing.
 -- By and Silent are what is promised; that `given` is so is for each check to be shown (`Agrees`)
 pub record Check : Type 1 where
   pub low : ℕ
@@ -86,7 +86,7 @@ AllSilent (c ∷ (d ∷ o)) = c .Silent × AllSilent (d ∷ o)
 
 -- ---- the law
 
--- a number that an order gives: each above 0 exactly when its check holds and none before it, 0 exactly when none holds, and no number that the order doesn't list
+-- 15.2: a number that an order gives: each above 0 exactly when its check holds and none before it, 0 exactly when none holds, and no number that the order doesn't list
 pub record Gives (o : Order) (given : ℕ) : Type 0 where
   pub some : (n : ℕ) → 0 < n → (given ≡ n) ↔ Given o n
   pub none : (given ≡ 0) ↔ AllSilent o
@@ -105,6 +105,6 @@ Right (c ∷ o) = Agrees c × (c .Silent → Right o)
 abbrev pub EveryOrderGives : Type 1
 EveryOrderGives = (o : Order) → Right o → Gives o (refusalBy o)
 
--- two refusals of one order never both fit
+-- 15.1: two refusals of one order never both fit
 abbrev pub OneRefusal : Type 1
 OneRefusal = (o : Order) → Right o → (m n : ℕ) → 0 < m → 0 < n → Given o m → Given o n → m ≡ n

@@ -26,12 +26,12 @@ use Rattle.session_memory.specs.Suspended.{Suspended, Wide, tableOf}
 abbrev pub lacking : ℕ → Bool → Type 0 → Check
 lacking k b P = meant k b (P → ⊥) P
 
--- 15: a buffer is shorter than a table, a line, more nodes than a tree may have, their own sets and eight points, the engine or what a line can print
+-- 20.3, 20.9: 15, where a buffer is shorter than a table, a line, more nodes than a tree may have, their own sets and eight points, the engine or what a line can print
 unfoldable pub narrow : Suspended → List ℕ → Bool
 narrow d out =
     ltb (length (d .words)) 2657 || ltb (length (d .window)) 29 || ltb (length (d .parts)) 513 || ltb (length (d .partOwns)) 521 || short (d .memory) || ltb (length out) 131072
 
--- 11: more than 28 bytes of a line are begun, or an LF is among them
+-- 20.9: 11, where more than 28 bytes of a line are begun, or an LF is among them
 unfoldable pub overrun : ℕ → List ℕ → Bool
 overrun begun window = ltb 28 begun || someBelow (λ i. eqb (getD window i 0) 10) begun
 
@@ -59,7 +59,7 @@ alike (a ∷ k) (b ∷ l) = eqb a b && alike k l
 abbrev pub meets : Expected → Expected → Bool
 meets x y = isOn x && alike (frameKey x) (frameKey y)
 
--- from x on to y, n frames at most: 1 to 5 of the first frame before y that is refused, 11 where the walk doesn't come to y
+-- 20.9: from x on to y, n frames at most: 1 to 5 of the first frame before y that is refused, 11 where the walk doesn't come to y
 unfoldable pub walkRefusal : ℕ → List ℕ → Expected → Expected → ℕ
 walkRefusal zero t x y = 11
 walkRefusal (suc n) t x y = cond (meets x y) 0 (orElse (frameRefusal t x) (walkRefusal n t (nextOf t x) y))
@@ -81,7 +81,7 @@ pub record StopsBefore (t : List ℕ) (y : Expected) (n : ℕ) : Type 0 where
   pub unmet : place ≡ y → ⊥
   pub number : refusalAt t (entryOf place) ≡ n
 
--- 1 to 5 where it stops at a frame before y
+-- 20.9: 1 to 5 where it stops at a frame before y
 abbrev pub stopCheck : List ℕ → Expected → Check
 stopCheck t y = record {
   low = 1;
@@ -97,7 +97,7 @@ walkOrder t y = stopCheck t y ∷ meant 11 (eqb (sofarRefusal t y) 11) (Comes t 
 
 -- ---- among a command's points
 
--- 11: no lines name so many points with so many nodes
+-- 20.9: 11, where no lines name so many points with so many nodes
 unfoldable pub misnamed : ℕ → ℕ → List ℕ → Bool
 misnamed count taken os = leb count taken || ltb 255 count || ltb (65535 * taken) (announced (namedIn taken os))
 
@@ -107,11 +107,11 @@ misnamed count taken os = leb count taken || ltb 255 count || ltb (65535 * taken
 abbrev pub ifHeld : Bool → ℕ → Check
 ifHeld held n = record { low = 6; high = 7; given = cond held n 0; By = λ k. (held ≡ true) × (n ≡ k); Silent = held ≡ true → n ≡ 0 }
 
--- between commands: 15, 1 to 5, 11 as in every call, and 6/7 of the tree where one is held
+-- 20.9: between commands 15, 1 to 5, 11 as in every call, and 6/7 of the tree where one is held
 abbrev pub keptOrder : List ℕ → Memory → Record → Order
 keptOrder t m r = groundOrder t m r ++ (ifHeld (r .held) (heldRefusal t m r) ∷ [])
 
--- among a command's points and nodes 11 comes first, where as many have come as are announced or the points can't be; at work what a step is refused by; behind the end nothing
+-- 20.9: among a command's points and nodes 11 comes first, where as many have come as are announced or the points can't be; at work what a step is refused by; behind the end nothing
 abbrev pub awaitedOrder : Awaited → List ℕ → List ℕ → Memory → Record → Order
 awaitedOrder (Table x) t os m r = walkOrder t x
 awaitedOrder Command t os m r = keptOrder t m r
@@ -122,12 +122,12 @@ awaitedOrder Stopped t os m r = []
 
 -- ---- a state and its memory: t are the table's words
 
--- 11 of the begun line, and what is waited for
+-- 20.9: 11 of the begun line, and what is waited for
 abbrev pub settledOrder : State → List ℕ → List ℕ → List ℕ → Memory → Order
 settledOrder s t window os m =
     lacking 11 (overrun (s .begun) window) ((s .begun ≤ 28) × Begun (take (s .begun) window)) ∷ awaitedOrder (s .awaited) t os m (s .«record»)
 
--- 15 before these
+-- 20.9: 15 before these
 abbrev pub stateOrder : Suspended → List ℕ → Order
 stateOrder d out =
     lacking 15 (narrow d out) (Wide (d .words) (d .window) (d .parts) (d .partOwns) (d .memory) out)

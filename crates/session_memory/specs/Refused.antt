@@ -23,13 +23,13 @@ MisnamedMeans = (count taken : ℕ) (os : List ℕ) → (misnamed count taken os
 
 -- ---- a state and its memory
 
--- a number that is given by the order: 0 exactly where the memory is a session's, and 15 exactly where a buffer is short, though what is asked behind that asks for the
+-- 20.9: a number that is given by the order: 0 exactly where the memory is a session's, and 15 exactly where a buffer is short, though what is asked behind that asks for the
 -- engine's buffers once more
 pub record StateGives (d : Suspended) (out : List ℕ) (given : ℕ) : Type 0 where
   pub order : Gives (stateOrder d out) given
   pub fits : (given ≡ 0) ↔ Fits d out
   pub short : (given ≡ 15) ↔ (Wide (d .words) (d .window) (d .parts) (d .partOwns) (d .memory) out → ⊥)
 
--- any memory is refused exactly so
+-- 20.9, 23.1: any memory is refused exactly so
 abbrev pub AllStateGives : Type 0
 AllStateGives = (d : Suspended) (out : List ℕ) → StateGives d out (stateRefusal d out)

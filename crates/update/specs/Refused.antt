@@ -11,7 +11,7 @@ use Rattle.update.specs.Refusals.{loadOrder, loadRefusal, replaceOrder, 
 
 -- ---- 15.2: each number exactly when
 
--- a number that a call gives, by the call's order
+-- 15.2: a number that a call gives, by the call's order
 abbrev pub LoadGives : List ℕ → Memory → Record → List ℕ → List ℕ → ℕ → Type 0
 LoadGives t m r ns owns = Gives (loadOrder t m r ns owns)
 
@@ -30,7 +30,7 @@ ReadGives t m r x = Gives (readOrder t m r x)
 abbrev pub DumpGives : List ℕ → Memory → Record → ℕ → ℕ → ℕ → Type 0
 DumpGives t m r room wanted = Gives (dumpOrder t m r room wanted)
 
--- every call gives its numbers exactly so
+-- 23.1: every call gives its numbers exactly so
 pub record GivenExactly (t : List ℕ) (m : Memory) (r : Record) : Type 0 where
   pub load : (ns owns : List ℕ) → LoadGives t m r ns owns (loadRefusal t m r ns owns)
   pub replace : (point : ℕ) (new newOwns : List ℕ) → ReplaceGives t m r point new newOwns (replaceRefusal t m r point new newOwns)
@@ -44,12 +44,12 @@ AllGivenExactly = (t : List ℕ) (m : Memory) (r : Record) → GivenExactly t m 
 
 -- ---- 15.1: a refusal changes nothing lent
 
--- a call that refuses by n answers n and leaves all; one that refuses nothing answers what was asked for
+-- 15.1: a call that refuses by n answers n and leaves all; one that refuses nothing answers what was asked for
 pub record Leaves {A : Type 0} (n : ℕ) (r : Record) (m : Memory) (left : Left (Said A)) : Type 0 where
   pub refused : 0 < n → left ≡ record { answer = refused n; next = r; memory = m }
   pub carried : n ≡ 0 → (a : A) × (left .answer ≡ said a)
 
--- a reading changes nothing in any case
+-- 13.3: a reading changes nothing in any case
 pub record ReadLeaves (n : ℕ) (answer : Said ℕ) : Type 0 where
   pub refused : 0 < n → answer ≡ refused n
   pub carried : n ≡ 0 → (v : ℕ) × (answer ≡ said v)
