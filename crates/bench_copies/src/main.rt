@@ -1,6 +1,7 @@
 // Reads the text of a table and then of a tree from standard input and writes both back, so that reading and writing can be counted by themselves.
 //
 // The argument says how far it goes: `take` the bytes, `read` the table and the tree, `write` them back. Accepted text comes back as it went in.
+#![tactic(auto)]
 use libc::{STDIN_FILENO, STDOUT_FILENO};
 use text::{ReadTable, ReadTree, Written, read_table, read_tree, write_table, write_tree};
 

@@ -3,6 +3,7 @@
 // The graph: the number n of its slots, then for each slot its two arguments a and b, all in two bytes, the high one first. 65534 for a says that the
 // slot is not declared; any other number from n on is no argument. Asked to `rank`, it prints how many circles there are and what the lists
 // of members and of ends have in the middle; asked to `read`, how many slots, and zeros.
+#![tactic(auto)]
 ghost use Rattle.std.specs.Prelude.{◌+◌, ◌*◌, ◌<◌, ◌≤◌, ◌≡◌, cond, length};
 ghost use Rattle.circles.specs.Arrays.{Given, graph_of};
 ghost use Rattle.circles.specs.Graph.{Closed};
@@ -98,7 +99,7 @@ fn is_closed(n: usize, a: &[u16; 4096], b: &[u16; 4096]) -> bool
 }
 
 // How many circles or slots there are, and what the lists of members and of ends have in the middle.
-#[derive(Drop)]
+#[derive(Clone, Copy)]
 struct Found {
     count: usize,
     member: u16,

@@ -2,6 +2,7 @@
 //
 // Standard input has the text of a table and then of a tree. The stages: `judge` the table and the tree, the `spans` of its subtrees, `wire` its instances,
 // `rank` its circles. What is printed: the count of nodes, or of circles once they are ranked, and what each array has in the middle, in hex of one width.
+#![tactic(auto)]
 ghost use Rattle.std.specs.Prelude.{◌<◌};
 ghost use Rattle.wire.specs.Inner.Turns.{Held};
 

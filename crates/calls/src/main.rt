@@ -2,6 +2,7 @@
 // stands outside every circle until the leaf is replaced, and inside one from the start. Each line says what a call answers and, behind a bar, the record that it leaves; a
 // line of memory is a mark of all that is lent, which no refused call may change. `stdout` has the right lines, from docs/RULES.md, the recorded sessions and a program that
 // isn't this one.
+#![tactic(auto)]
 mod act;
 mod lending;
 mod mark;

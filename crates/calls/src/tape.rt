@@ -2,7 +2,7 @@
 use std::num::wrapping_sub_usize;
 
 // A row of so many points, of which the first two are named and take one node each: the nodes from one place to another, with the own sets from a third on.
-#[derive(Drop)]
+#[derive(Clone, Copy)]
 pub struct Row {
     pub count: usize,
     pub first: usize,
@@ -13,7 +13,7 @@ pub struct Row {
 }
 
 // What may change the held tree, by places in the day's nodes and own sets.
-#[derive(Drop)]
+#[derive(Clone, Copy)]
 pub enum Change {
     // a load of the nodes from one place to another, with the own sets from the first place to a third
     Load(usize, usize, usize),
@@ -26,7 +26,7 @@ pub enum Change {
 }
 
 // What works on an open update.
-#[derive(Drop)]
+#[derive(Clone, Copy)]
 pub enum Work {
     Step,
     Run(u64),
@@ -34,7 +34,7 @@ pub enum Work {
 }
 
 // What only looks, at an instance, at those of a day, at all that is lent; or goes on with an empty record, with one beyond its limits, or with a new line.
-#[derive(Drop)]
+#[derive(Clone, Copy)]
 pub enum Look {
     Read(usize),
     Day,
@@ -44,7 +44,7 @@ pub enum Look {
     Line,
 }
 
-#[derive(Drop)]
+#[derive(Clone, Copy)]
 pub enum Call {
     Change(Change),
     Work(Work),

@@ -1,4 +1,5 @@
 // Stored sessions, each from the file that an argument names: its name, and then all that the session prints.
+#![tactic(auto)]
 
 // One session; false where its file can't be read or its name can't be printed.
 fn tell(path: &[u8]) -> bool {

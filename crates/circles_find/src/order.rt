@@ -86,7 +86,7 @@ fn walk(
 }
 
 // Where the order begins, and how many slots are listed.
-#[derive(Drop)]
+#[derive(Clone, Copy)]
 pub struct Walked {
     pub from: usize,
     pub count: usize,

@@ -277,7 +277,7 @@ fn unlabelled(count: usize, slots: &[u16], rep: &[u16], from: usize) -> usize
 }
 
 // What is to be tried next, and where the order and the list stand then.
-#[derive(Drop)]
+#[derive(Clone, Copy)]
 struct Seed {
     x: u16,
     i: usize,

@@ -1,4 +1,5 @@
 // The circles of a labelled graph, taken turn by turn.
+#![tactic(auto)]
 mod ranks;
 
 pub use ranks::rank_labelled;

@@ -1,7 +1,8 @@
 // The refusals of chapter 14 (docs/RULES.md), one name a number, and what a checker answers.
+#![tactic(auto)]
 ghost use Rattle.refusal.specs.Numbers.{NumberSays};
 
-#[derive(Drop)]
+#[derive(Clone, Copy)]
 pub enum Refusal {
     // 1: a count of the table is out of bounds
     Count,
@@ -46,7 +47,7 @@ pub enum Refusal {
 }
 
 // What a checker answers.
-#[derive(Drop)]
+#[derive(Clone, Copy)]
 pub enum Verdict {
     Sound,
     Refused(Refusal),

@@ -22,7 +22,7 @@ use text_frame::{frame_at, line_after};
 use update::Record;
 
 // What a turn leads to: how far the piece is taken, where the next byte is printed, and whether there is more to do.
-#[derive(Drop)]
+#[derive(Clone, Copy)]
 struct Turned {
     state: State,
     place: usize,

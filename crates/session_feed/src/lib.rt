@@ -1,4 +1,5 @@
 // The front door of sessions, however the bytes arrive: a session's text comes in pieces of any length, and the frames that it prints go out.
+#![tactic(auto)]
 mod feeding;
 
 pub use feeding::feed;
@@ -6,7 +7,7 @@ use refusal::Verdict;
 pub use session_memory::{State, finish, start};
 
 // How far the piece was taken, how many bytes are to be printed, and whether there is more to do; or why the memory can't be a session's, and then all is as it was.
-#[derive(Drop)]
+#[derive(Clone, Copy)]
 pub struct Fed {
     pub verdict: Verdict,
     pub state: State,

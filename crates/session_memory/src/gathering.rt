@@ -6,7 +6,7 @@ ghost use Rattle.session_memory.specs.Gathering.{Gathers};
 use text_line::{AHEAD, LF};
 
 // How many bytes of a line have come, how far the piece was taken, and whether 29 bytes or an LF decide the line.
-#[derive(Drop)]
+#[derive(Clone, Copy)]
 pub struct Gathered {
     pub begun: usize,
     pub place: usize,

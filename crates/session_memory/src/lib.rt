@@ -1,4 +1,5 @@
 // What a session is between two pieces of its text: a state by value, and lent memory that is judged before it is used.
+#![tactic(auto)]
 mod copying;
 mod ending;
 mod fitting;
@@ -15,7 +16,7 @@ use text_frame::Expected;
 use update::Record;
 
 // Between two pieces: the awaited, how many bytes of a line have come, the number of that line, and the update record.
-#[derive(Drop)]
+#[derive(Clone, Copy)]
 pub struct State {
     pub awaited: Awaited,
     pub begun: usize,

@@ -1,4 +1,5 @@
 // What an update's rounds print.
+#![tactic(auto)]
 ghost use Rattle.std.specs.Prelude.{◌≡◌, cond, ◌+◌, ◌≤◌, length};
 ghost use Rattle.climb.specs.Inner.Wired.{Wiring};
 ghost use Rattle.update.specs.Within.{WithinLimits};

@@ -1,4 +1,5 @@
 // A session from one file descriptor to another: a thin loop over `feed`, in fixed memory. A failed read ends the input; a failed write ends the session.
+#![tactic(auto)]
 ghost use Rattle.std.specs.Prelude.{◌≡◌, true};
 ghost use Rattle.io.specs.Counts.{IsPrefixLen};
 ghost use Rattle.session_memory.specs.Suspended.{suspended};
@@ -11,7 +12,7 @@ use session_feed::{Fed, State, feed, finish, start};
 use text_frame::Written;
 
 // Behind a call: the state, how far the piece was taken, whether more of it is to be done, and whether the session goes on.
-#[derive(Drop)]
+#[derive(Clone, Copy)]
 pub struct Progress {
     pub state: State,
     pub place: usize,

@@ -1,17 +1,18 @@
 // Sets of hold reasons, and the equations over them: a set is a word with one bit for each reason code, 0 the empty one.
 // Codes 56 to 63 are notes: members like the others, but operation 7 does not count them.
+#![tactic(auto)]
 ghost use Rattle.sets.specs.Members.{MembersSay, CountSays};
 ghost use Rattle.sets.specs.Operations.{ValueSays};
 
 // A place of a production, 0 for the left symbol and 1 to 4 for a child, and the index of a set that is declared there.
-#[derive(Drop)]
+#[derive(Clone, Copy)]
 pub struct Argument {
     pub position: u8,
     pub index: u8,
 }
 
 // An operation with the arguments a and b and the constant c that it uses, by its number in 3.2.
-#[derive(Drop)]
+#[derive(Clone, Copy)]
 pub enum Op {
     // 0: c
     Constant(u64),
@@ -36,7 +37,7 @@ pub enum Op {
 }
 
 // What defines a set: an operation, with all that it uses.
-#[derive(Drop)]
+#[derive(Clone, Copy)]
 pub struct Equation {
     pub op: Op,
 }

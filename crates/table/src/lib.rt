@@ -1,4 +1,5 @@
 // Rule tables: what their words say.
+#![tactic(auto)]
 mod equations;
 mod words;
 

@@ -1,4 +1,5 @@
 // Frames of text: one a line; which frame of a table comes next, and what a session prints.
+#![tactic(auto)]
 mod kinds;
 mod out;
 mod walk;
@@ -19,7 +20,7 @@ pub const SET_LINE: usize = 23;
 pub const REFUSAL_LINE: usize = 13;
 
 // The symbols of up to four children, 0 where there is none.
-#[derive(Drop)]
+#[derive(Clone, Copy)]
 pub struct Children {
     pub one: u8,
     pub two: u8,
@@ -28,7 +29,7 @@ pub struct Children {
 }
 
 // 17.1: a frame of a table.
-#[derive(Drop)]
+#[derive(Clone, Copy)]
 pub enum Rule {
     // 01
     Header {
@@ -56,7 +57,7 @@ pub enum Rule {
 }
 
 // 17.1: the first frame of a command that changes the tree.
-#[derive(Drop)]
+#[derive(Clone, Copy)]
 pub enum Change {
     // 06
     Load { count: u16 },
@@ -67,7 +68,7 @@ pub enum Change {
 }
 
 // 16.4: a kind of frame with its fields, a refusal with its line, or no line at all.
-#[derive(Drop)]
+#[derive(Clone, Copy)]
 pub enum Frame {
     Rule(Rule),
     // 05
@@ -82,7 +83,7 @@ pub enum Frame {
 }
 
 // A frame, and the place and the number of the line behind it.
-#[derive(Drop)]
+#[derive(Clone, Copy)]
 pub struct Step {
     pub frame: Frame,
     pub place: usize,
@@ -90,7 +91,7 @@ pub struct Step {
 }
 
 // The frame of a table that comes next: the header, symbol s, production p, or of production p the equation k of position q; or none.
-#[derive(Drop)]
+#[derive(Clone, Copy)]
 pub enum Expected {
     AtHeader,
     AtSymbol(usize),
@@ -100,14 +101,14 @@ pub enum Expected {
 }
 
 // How many bytes were written, or why none.
-#[derive(Drop)]
+#[derive(Clone, Copy)]
 pub enum Written {
     Length(usize),
     Refused(Refusal),
 }
 
 // A reader: the lent text, the place of the next line and its number.
-#[derive(Drop)]
+#[derive(Clone, Copy)]
 pub struct Reader<'a> {
     pub text: &'a [u8],
     pub place: usize,

@@ -1,4 +1,6 @@
 // Lines of hexadecimal text: digits, lines, and numbers in and out.
+#![tactic(auto)]
+
 ghost use Rattle.std.specs.Prelude.{◌≡◌, ◌∷◌, [], ◌+◌, ◌<◌, ◌≤◌, ◌^◌, length, get_or};
 ghost use Rattle.std.proofs.lemmas.List.Edits.{sets};
 ghost use Rattle.text_line.specs.Hex.{is_hex, digit_value, digits_at, num_at, hex_of, hex_digits};
@@ -13,7 +15,7 @@ pub const AHEAD: usize = 29;
 pub const LF: u8 = 10;
 
 // The line at a place: so many digits and then LF, no line, or nothing more.
-#[derive(Drop)]
+#[derive(Clone, Copy)]
 pub enum Line {
     Digits(usize),
     Bad,

@@ -1,4 +1,5 @@
 // Trees to and from text.
+#![tactic(auto)]
 mod grow;
 mod plant;
 
@@ -7,7 +8,7 @@ pub use plant::write_tree;
 use refusal::Refusal;
 
 // How many nodes were read, where the text behind them starts, and its line; or why no tree was read, and the line.
-#[derive(Drop)]
+#[derive(Clone, Copy)]
 pub enum ReadTree {
     Read {
         count: usize,

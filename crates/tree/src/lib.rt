@@ -1,4 +1,5 @@
 // Trees in preorder: the judgement 6 and 7, and where each subtree ends.
+#![tactic(auto)]
 ghost use Rattle.std.specs.Prelude.{◌≡◌, [], ◌∷◌, suc, ◌+◌, ◌-◌, ◌<◌, ◌≤◌, length, take};
 ghost use Rattle.refusal.specs.Numbers.{verdict_of};
 ghost use Rattle.table.specs.Words.{production_count, child_count, children_from};
@@ -16,28 +17,28 @@ use table_judge::judge_table;
 pub const NODES: usize = 512;
 
 // Where a walk stands behind what it read, or what is wrong there.
-#[derive(Drop)]
+#[derive(Clone, Copy)]
 pub enum Walk {
     Behind(usize),
     Wrong(Refusal),
 }
 
 // A point of a replacement, by its number in a tree, and its new part's count.
-#[derive(Drop)]
+#[derive(Clone, Copy)]
 pub struct Point {
     pub node: usize,
     pub count: usize,
 }
 
 // The points that a call names, by their numbers in the tree as it was: the first `count` of them.
-#[derive(Drop)]
+#[derive(Clone, Copy)]
 pub struct Places {
     pub count: usize,
     pub points: [Point; 8],
 }
 
 // A point of the tree as it was, with the count of its subtree, which makes way, and of its new part.
-#[derive(Drop)]
+#[derive(Clone, Copy)]
 pub struct Cut {
     pub node: usize,
     pub old: usize,
@@ -45,7 +46,7 @@ pub struct Cut {
 }
 
 // The cuts at the points that a call names: the first `count` of them.
-#[derive(Drop)]
+#[derive(Clone, Copy)]
 pub struct Cuts {
     pub count: usize,
     pub cuts: [Cut; 8],

@@ -1,4 +1,5 @@
 // The update record that the caller lends, and what the engine's calls answer.
+#![tactic(auto)]
 ghost use Rattle.std.specs.Prelude.{◌≡◌};
 ghost use Rattle.update.specs.Records.{EmptySays, is_open_kind};
 
@@ -7,14 +8,14 @@ use refusal::Refusal;
 use tree::Point;
 
 // Which update is open: none, a load, a replacement.
-#[derive(Drop)]
+#[derive(Clone, Copy)]
 pub enum Open {
     Nothing,
     Load,
     Replacement,
 }
 
-#[derive(Drop)]
+#[derive(Clone, Copy)]
 pub struct Record {
     // whether a tree is held
     pub held: bool,
@@ -77,7 +78,7 @@ pub fn is_open(open: Open) -> bool
 }
 
 // What a step answers: the round that it made, by its circle's least instance, or the numbers at done, or why not.
-#[derive(Drop)]
+#[derive(Clone, Copy)]
 pub enum Answer {
     Round {
         least: usize,
@@ -94,7 +95,7 @@ pub enum Answer {
 }
 
 // What a run answers: the rounds made, and done's numbers if it came to done, or why not.
-#[derive(Drop)]
+#[derive(Clone, Copy)]
 pub enum Run {
     Paused {
         rounds: u64,
@@ -109,7 +110,7 @@ pub enum Run {
 }
 
 // What a reading answers.
-#[derive(Drop)]
+#[derive(Clone, Copy)]
 pub enum Reading {
     Set(u64),
     Refused(Refusal),

@@ -1,4 +1,5 @@
 // Load and replacement: what opens an update.
+#![tactic(auto)]
 ghost use Rattle.std.specs.Prelude.{◌≡◌, [], ◌∷◌};
 ghost use Rattle.tree.specs.Handed.{named_points, bare_row};
 ghost use Rattle.update.specs.Refusals.{held_refusal};
@@ -15,7 +16,7 @@ use update_judge::{cuts_of, judge_aim, judge_ground, judge_loaded, judge_named, 
 use update_place::placing::{place_row, place_tree};
 
 // What a load or a replacement answers, and the record that it leaves.
-#[derive(Drop)]
+#[derive(Clone, Copy)]
 pub struct Begun {
     pub verdict: Verdict,
     pub record: Record,

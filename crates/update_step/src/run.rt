@@ -10,7 +10,7 @@ ghost use Rattle.update_step.specs.Inner.Says.{RunSays};
 use super::step::step_in;
 use update::{Answer, Record, Run};
 
-#[derive(Drop)]
+#[derive(Clone, Copy)]
 pub struct Ran {
     pub answer: Run,
     pub record: Record,

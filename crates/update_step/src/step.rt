@@ -15,7 +15,7 @@ use tree::Point;
 use update::{Answer, Open, Record};
 use update_round::{changed, first_due, next_record, round_at, round_number};
 
-#[derive(Drop)]
+#[derive(Clone, Copy)]
 pub struct Stepped {
     pub answer: Answer,
     pub record: Record,

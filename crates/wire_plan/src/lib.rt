@@ -1,4 +1,5 @@
 // The wiring of a tree and its ranked circles, made once; and over them whether the tree has a waiver inside a circle.
+#![tactic(auto)]
 mod preparing;
 mod testing;
 

@@ -3,10 +3,10 @@ use borrow.Author.Rules.{rules}
 use Rattle.bench_ranks.proofs.counted.Statement.{statement}
 use Rattle.bench_ranks.proofs.counted.Tie as tie
 
-returns : tie.Need-returns
+returns : tie.Need-returns-then-rank
 returns c =
-    rw c.before.before.before.before.before.before.before.before.before.before.before.if1.true
-    c.before.before.before.before.before.before.before.rank-circles.ensures.counted
+    rw c.before.before.before.before.before.before.before.before.before.before.before.if-rank.true
+    c.before.before.before.before.before.before.before.rank_circles-count.ensures.counted
 
 pub counted_spec : {M : Type 1} → statement M
 counted_spec =

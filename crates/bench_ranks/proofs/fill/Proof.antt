@@ -6,13 +6,13 @@ use lib.ListN.{length, length-set}
 use Rattle.bench_ranks.proofs.fill.Statement.{statement}
 use Rattle.bench_ranks.proofs.fill.Tie as tie
 
-abbrev invariant_loop : tie.invariant_loop
+abbrev invariant_loop : tie.invariant-loop-x
 invariant_loop text n at into₀ x₀ into x = (x ≤ n) × (length into ≡ 4096)
 
-abbrev decreases_loop : tie.decreases_loop
+abbrev decreases_loop : tie.decreases-loop-x
 decreases_loop text n at into₀ x₀ into x = n - x
 
-loop_again : tie.Need-loop-preserved invariant_loop decreases_loop
+loop_again : tie.Need-loop-x-preserved invariant_loop decreases_loop
 loop_again c = (omega arith, simp length-set (omega arith))
 
 pub fill_spec : {M : Type 1} → statement M

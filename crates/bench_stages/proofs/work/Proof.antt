@@ -15,19 +15,19 @@ spans_requires c κs =
     let ns = s.args.nodes.now in
     ((h.few, h.few), record { number = λ n l. omega (arith, number_in t ns h.judged h.sound n l, (limits t h.judged).productions) })
 
-wire_tree_requires : tie.Need-wire-tree-requires
+wire_tree_requires : tie.Need-wire_tree-requires
 wire_tree_requires c κs =
     let h = c.before.before.before.before.before.before.before.before.before.before.before.requires in
     let e = c.before.before.before.before.before.before.before.spans.ensures in
     let few = h.few in
     (h, (record { long = omega (arith, e.long); ended = e.nodes }, record { firsts = omega arith; seconds = omega arith; lefts = omega arith; rules = omega arith }))
 
-rank_circles_requires : tie.Need-rank-circles-requires
+rank_circles_requires : tie.Need-rank_circles-count-requires
 rank_circles_requires c κs =
     let s = c.before.before.before.before.before.before.before.before.before.before.before.before.before.before.before.before.before.before.before.before.before.before in
     let h = s.requires in
     let few = h.few in
-    (wired_given s.args.table.now s.args.nodes.now _ _ _ _ _ _ _ _ h.judged h.sound few c.before.before.before.before.before.before.before.before.before.before.wire-tree.ensures, omega arith, omega arith, omega arith)
+    (wired_given s.args.table.now s.args.nodes.now _ _ _ _ _ _ _ _ h.judged h.sound few c.before.before.before.before.before.before.before.before.before.before.wire_tree.ensures, omega arith, omega arith, omega arith)
 
 pub work_spec : {M : Type 1} → statement M
 work_spec =

@@ -5,10 +5,10 @@ use borrow.Author.Rules.{rules}
 use Rattle.cases.proofs.main.Statement.{statement}
 use Rattle.cases.proofs.main.Tie as tie
 
-abbrev invariant_loop : tie.invariant_loop
+abbrev invariant_loop : tie.invariant-loop-i
 invariant_loop count i₀ i = 1 ≤ i
 
-abbrev decreases_loop : tie.decreases_loop
+abbrev decreases_loop : tie.decreases-loop-i
 decreases_loop count i₀ i = count - i
 
 pub main_spec : {M : Type 1} → statement M

@@ -7,5 +7,5 @@ pub agree_spec : {M : Type 1} → statement M
 agree_spec =
     tie.close
     (tie.spec
-    (λ c. rw c.if1.true)
+    (λ c. rw c.if-still.true)
     (λ c. search rules))

@@ -11,9 +11,9 @@ unfolding eval_of
 returns c =
     let g = c.before.before.before.before.before.before.before.before.before.before.before.before.before.before.before.before.before.before.before.args in
     let r = c.before.before.before.before.before.before.before.before.before.before.before.before.before.before.before.before.before.before.before.requires.0 in
-    rw (c.value.ensures, c.before.before.equation-at.ensures, c.before.before.before.wide4.ensures, c.before.before.before.before.before.before.before.before.before.before.before.wide.ensures)
+    rw (c.value.ensures, c.before.before.equation_at-equation.ensures, c.before.before.before.wide-3.ensures, c.before.before.before.before.before.before.before.before.before.before.before.wide-node.ensures)
     (value_is _ _ g.n (at g.sets.now) g.a.now g.b.now g.x _ _ _ _ r.firsts r.seconds
-    c.before.before.before.before.before.before.before.before.before.wide2.ensures c.before.before.before.before.before.before.wide3.ensures c.before.before.before.before.before.before.before.before.read.ensures c.before.before.before.before.before.read2.ensures)
+    c.before.before.before.before.before.before.before.before.before.wide.ensures c.before.before.before.before.before.before.wide-2.ensures c.before.before.before.before.before.before.before.before.read-y.ensures c.before.before.before.before.before.read-z.ensures)
 
 pub evaluate_spec : {M : Type 1} → statement M
 evaluate_spec =

@@ -10,5 +10,5 @@ read_spec =
     (tie.spec
     (λ c. search rules)
     (λ c. search rules)
-    (λ c. rw (lt-ltb c.before.before.args.y c.before.before.args.n c.before.if1.true))
-    (λ c. rw (le-ltb c.before.args.y c.before.args.n c.if1.false)))
+    (λ c. rw (lt-ltb c.before.before.args.y c.before.before.args.n c.before.if-y-n.true))
+    (λ c. rw (le-ltb c.before.args.y c.before.args.n c.if-y-n.false)))

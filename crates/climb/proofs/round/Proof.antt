@@ -13,7 +13,7 @@ returns : tie.Need-returns
 returns c =
     let g = c.before.before.before.before.before.before.before.before.before.before.before.before.before.before.before.before.before.before.args in
     let q = c.before.before.before.before.before.before.before.before.before.before.before.before.before.before.before.before.before.before.requires in
-    let w = c.before.before.before.before.before.before.before.compute.ensures in
+    let w = c.before.before.before.before.before.before.before.compute-still.ensures in
     let f = eval_of g.n g.table.now g.owns.now g.a.now g.b.now g.left.now g.rule.now (at g.sets.now) in
     (w.0, (stored_together g.sets.now _ g.members.now g.values.now _ f g.start g.end q.0.rise q.0.room q.1.1 w.1 c.before.before.store.ensures, w.1))
 

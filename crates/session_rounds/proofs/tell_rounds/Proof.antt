@@ -50,7 +50,7 @@ tell_rounds_spec =
     (λ c. omega (arith, c.before.before.before.before.before.before.before.before.before.before.before.before.before.before.before.before.before.before.before.before.before.before.before.before.before.before.before.before.before.before.before.before.before.before.before.before.before.before.before.before.requires.0.ground.within.nodes))
     (λ c κs.
     let s = c.before.before.before.before.before.before.before.before.before.before.before.before.before.before.before.before.before.before.before.before.before.before.before.before.before.before.before.before.before.before.before.before.before.before.before.before.before.before.before.before.before.before.before in
-    let h = prepared_holds s.args.table.now (tree s) (owns s) _ _ _ _ _ _ _ _ _ _ _ _ _ _ _ (8 * nodes s) (sound s) (owned s) (slots s) c.before.before.before.before.before.before.before.before.before.before.before.before.before.before.before.before.before.before.before.before.before.before.before.prepare.ensures in
+    let h = prepared_holds s.args.table.now (tree s) (owns s) _ _ _ _ _ _ _ _ _ _ _ _ _ _ _ (8 * nodes s) (sound s) (owned s) (slots s) c.before.before.before.before.before.before.before.before.before.before.before.before.before.before.before.before.before.before.before.before.before.before.before.prepare-count.ensures in
     let g = s.requires.0.ground in
     (g.within, (h.wiring, (h.circles, (record { limit = omega (arith, g.within.nodes); olds = omega (arith, g.within.nodes, g.room.earlier); sets_room = omega (arith, g.within.nodes, g.room.sets); values_room = omega (arith, g.within.nodes, s.requires.1.1.0) }, s.requires.1.1.1)))))
     (λ c. search rules)
@@ -63,11 +63,11 @@ tell_rounds_spec =
     (λ c. search rules)
     (λ c.
     let s = c.before.before.before.before.before.before.before.before.before.before.before.before.before.before.before.before.before.before.before.before.before.before.before.before.before.before.before.before.before.before.before.before.before.before.before.before.before.before.before.before.before.before.before.before.before.before.before.before.before.before in
-    let p = c.before.before.before.before.before.before.before.before.before.before.before.before.before.before.before.before.before.before.before.before.before.before.before.before.before.before.before.before.before.before.prepare.ensures in
+    let p = c.before.before.before.before.before.before.before.before.before.before.before.before.before.before.before.before.before.before.before.before.before.before.before.before.before.before.before.before.before.before.prepare-count.ensures in
     let h = prepared_holds s.args.table.now (tree s) (owns s) _ _ _ _ _ _ _ _ _ _ _ _ _ _ _ (8 * nodes s) (sound s) (owned s) (slots s) p in
     let l = prepared_long s.args.table.now (tree s) _ _ _ _ _ _ _ _ _ _ _ _ _ _ _ (sound s).few s.requires.1.0.firsts s.requires.1.0.seconds p in
     let f = s.requires.1.0 in (
-      c.before.before.before.before.before.before.tell-steps.ensures.rounds s.args.held.now s.args.held_owns.now s.requires.0 refl h,
+      c.before.before.before.before.before.before.tell_steps.ensures.rounds s.args.held.now s.args.held_owns.now s.requires.0 refl h,
       (
         record { firsts = l.0; seconds = l.1; lefts = omega (arith, c.before.before.before.before.before.before.before.before.before.before.before.before.before.before.before.before.before.before.before.before.before.before.before.before.before.before.before.before.before.left.given, f.lefts); rules = omega (arith, c.before.before.before.before.before.before.before.before.before.before.before.before.before.before.before.before.before.before.before.before.before.before.before.before.before.before.before.rule.given, f.rules); labels = omega (arith, c.before.before.before.before.before.before.before.before.before.before.before.before.before.before.before.before.before.before.before.before.before.before.before.before.before.label.given, f.labels); listed = omega (arith, c.before.before.before.before.before.before.before.before.before.before.before.before.before.before.before.before.before.before.before.before.before.before.before.members.given, f.listed); ended = omega (arith, c.before.before.before.before.before.before.before.before.before.before.before.before.before.before.before.before.before.before.before.before.before.ends.given, f.ended) },
         omega (arith, c.before.before.before.values.given, s.requires.1.1.0),

@@ -4,14 +4,14 @@ use borrow.Author.Rules.{rules}
 use Rattle.session_serve.proofs.print_fed.Statement.{statement}
 use Rattle.session_serve.proofs.print_fed.Tie as tie
 
-returns : tie.Need-returns
+returns : tie.Need-returns-then-print
 returns c = on c.before.before.enum_told.given.1
 
-returns_2 : tie.Need-returns-2
+returns_2 : tie.Need-returns-else-print
 returns_2 c = rw c.stop.ensures (over _)
 
-returns_3 : tie.Need-returns-3
-returns_3 c = rw c.stop2.ensures (over _)
+returns_3 : tie.Need-returns-in-Refused
+returns_3 c = rw c.stop-in-Refused.ensures (over _)
 
 pub print_fed_spec : {M : Type 1} → statement M
 print_fed_spec =

@@ -18,7 +18,7 @@ starts_here s e =
     subst (λ (x : State). Starts (suspended (replicate 2657 0) (replicate 29 0) (replicate 513 0) (replicate 521 0) (lent (replicate 512 0) (replicate 512 0) (replicate 4096 0) (replicate 4096 0)) x) (replicate 131072 0))
     (sym e) program_starts
 
-take_pieces_requires : tie.Need-take-pieces-requires
+take_pieces_requires : tie.Need-take_pieces-requires
 take_pieces_requires c κs = starts_here _ c.before.before.before.before.before.before.before.before.before.before.start.ensures
 
 pub serve_spec : {M : Type 1} → statement M

@@ -6,25 +6,25 @@ use borrow.Author.Rules.{rules}
 use Rattle.session_serve.proofs.take_pieces.Statement.{statement}
 use Rattle.session_serve.proofs.take_pieces.Tie as tie
 
-abbrev invariant_loop : tie.invariant_loop
+abbrev invariant_loop : tie.invariant-loop-turns
 invariant_loop input output words₀ window₀ parts₀ part-owns₀ held₀ held-owns₀ sets₀ before₀ buffer₀ out₀ now₀ turns₀ words window parts part_owns_lem held held_owns sets earlier buffer out now turns =
     (length words ≡ length words₀) × (length window ≡ length window₀) × (length parts ≡ length parts₀) × (length part_owns_lem ≡ length part-owns₀) × (length held ≡ length held₀)
     × (length held_owns ≡ length held-owns₀) × (length sets ≡ length sets₀) × (length earlier ≡ length before₀) × (length buffer ≡ length buffer₀) × (length out ≡ length out₀)
 
-abbrev decreases_loop : tie.decreases_loop
+abbrev decreases_loop : tie.decreases-loop-turns
 decreases_loop input output words₀ window₀ parts₀ part-owns₀ held₀ held-owns₀ sets₀ before₀ buffer₀ out₀ now₀ turns₀ words window parts part_owns_lem held held_owns sets earlier buffer out now turns = turns
 
 -- ---- the places of a turn
 
-abbrev tested : tie.After-slice-known20 invariant_loop decreases_loop → tie.In-loop invariant_loop decreases_loop
+abbrev tested : tie.After-slice_known-in-loop-turns-10-1 invariant_loop decreases_loop → tie.In-loop-turns invariant_loop decreases_loop
 tested c = c.before.before.before.before.before.before.before.before.before.before.before.before.before.before.before.before.before.before.before.before.before.before.before.before.before.before.before.before.before.before.before.before.before
 
-abbrev looped : tie.After-slice-known20 invariant_loop decreases_loop → tie.At-loop invariant_loop decreases_loop
+abbrev looped : tie.After-slice_known-in-loop-turns-10-1 invariant_loop decreases_loop → tie.At-loop-turns invariant_loop decreases_loop
 looped c = (tested c).before
 
 -- ---- a turn
 
-loop_again : tie.Need-loop-preserved invariant_loop decreases_loop
+loop_again : tie.Need-loop-turns-preserved invariant_loop decreases_loop
 loop_again c =
     let at_out = c.before in
     let at-buffer = at_out.before.before in
@@ -36,7 +36,7 @@ loop_again c =
     let at-parts = at-part-owns.before.before in
     let at-window = at-parts.before.before in
     let at_words = at-window.before.before in
-    let v = (looped c).loop.invariant in (
+    let v = (looped c).loop-turns.invariant in (
       at_words.words.given ∙ v.0,
       at-window.window.given ∙ v.1,
       at-parts.parts.given ∙ v.2,
@@ -58,28 +58,28 @@ take_pieces_spec =
     (λ c κs. search rules)
     (λ c. (refl, refl, refl, refl, refl, refl, refl, refl, refl, refl))
     (λ c κs. search rules)
-    (λ c. omega (arith, (tested c).loop-test.true))
-    (λ c. omega (arith, (tested c).loop-test.true))
+    (λ c. omega (arith, (tested c).loop-turns-test.true))
+    (λ c. omega (arith, (tested c).loop-turns-test.true))
     loop_again
-    (λ c. c.before.before.loop.invariant.0)
-    (λ c. c.before.before.loop.invariant.1)
-    (λ c. c.before.before.loop.invariant.2)
-    (λ c. c.before.before.loop.invariant.3)
-    (λ c. c.before.before.loop.invariant.4)
-    (λ c. c.before.before.loop.invariant.5)
-    (λ c. c.before.before.loop.invariant.6)
-    (λ c. c.before.before.loop.invariant.7)
-    (λ c. c.before.before.loop.invariant.8)
-    (λ c. c.before.before.loop.invariant.9)
+    (λ c. c.before.before.loop-turns.invariant.0)
+    (λ c. c.before.before.loop-turns.invariant.1)
+    (λ c. c.before.before.loop-turns.invariant.2)
+    (λ c. c.before.before.loop-turns.invariant.3)
+    (λ c. c.before.before.loop-turns.invariant.4)
+    (λ c. c.before.before.loop-turns.invariant.5)
+    (λ c. c.before.before.loop-turns.invariant.6)
+    (λ c. c.before.before.loop-turns.invariant.7)
+    (λ c. c.before.before.loop-turns.invariant.8)
+    (λ c. c.before.before.loop-turns.invariant.9)
     (λ c. search rules)
-    (λ c. c.before.loop.invariant.0)
-    (λ c. c.before.loop.invariant.1)
-    (λ c. c.before.loop.invariant.2)
-    (λ c. c.before.loop.invariant.3)
-    (λ c. c.before.loop.invariant.4)
-    (λ c. c.before.loop.invariant.5)
-    (λ c. c.before.loop.invariant.6)
-    (λ c. c.before.loop.invariant.7)
-    (λ c. c.before.loop.invariant.8)
-    (λ c. c.before.loop.invariant.9)
+    (λ c. c.before.loop-turns.invariant.0)
+    (λ c. c.before.loop-turns.invariant.1)
+    (λ c. c.before.loop-turns.invariant.2)
+    (λ c. c.before.loop-turns.invariant.3)
+    (λ c. c.before.loop-turns.invariant.4)
+    (λ c. c.before.loop-turns.invariant.5)
+    (λ c. c.before.loop-turns.invariant.6)
+    (λ c. c.before.loop-turns.invariant.7)
+    (λ c. c.before.loop-turns.invariant.8)
+    (λ c. c.before.loop-turns.invariant.9)
     (λ c. search rules))

@@ -62,7 +62,7 @@ module _ {M : Type 1} {𝓤 : Ura M} (𝓛 : Logic 𝓤) (mem : Memory → SProp
   at = (v ∷ [], (vint w64 m ∷ [], (vint w32 n ∷ [], tt)))
 
   abbrev Post : Val → SProp 𝓤
-  Post = (walk_of 𝓛 new.ended stayed (new.clauses 𝓛 mem run)).post (((κ, tt), (q, tt), tt, (s, (m, (n, tt))), at), tt)
+  Post = (walk_of 𝓛 new.ended stayed (new.clauses 𝓛 mem run)).ensures (((κ, tt), (q, tt), tt, (s, (m, (n, tt))), at), tt)
 
   abbrev Own : Fml
   Own = (ShrSlice (named 0) κ u8).own_val s (v ∷ [])

@@ -8,11 +8,11 @@ pub digit_value_spec : {M : Type 1} → statement M
 digit_value_spec =
     tie.close
     (tie.spec
-    (λ c. value_low _ c.if1.true)
+    (λ c. value_low _ c.if-b-lt48.true)
     (λ c. search rules)
-    (λ c. value_decimal _ c.before.if1.false c.if2.true)
-    (λ c. value_between _ c.before.if2.false c.if3.true)
+    (λ c. value_decimal _ c.before.if-b-lt48.false c.if-b-lt58.true)
+    (λ c. value_between _ c.before.if-b-lt58.false c.if-b-lt97.true)
     (λ c. search rules)
     (λ c. search rules)
-    (λ c. value_letter _ c.before.if3.false c.if4.true)
-    (λ c. value_high _ c.if4.false))
+    (λ c. value_letter _ c.before.if-b-lt97.false c.if-b-lt103.true)
+    (λ c. value_high _ c.if-b-lt103.false))

@@ -7,4 +7,4 @@ use Rattle.text_line.proofs.hex_digit.Tie as tie
 
 pub hex_digit_spec : {M : Type 1} → statement M
 unfolding hex_of
-hex_digit_spec = tie.close (tie.spec (λ c. search rules) (λ c. search rules) (λ c. simp (lt-ltb _ _ c.if1.true)) (λ c. simp (le-ltb _ _ c.if1.false)))
+hex_digit_spec = tie.close (tie.spec (λ c. search rules) (λ c. search rules) (λ c. simp (lt-ltb _ _ c.if-n-lt10.true)) (λ c. simp (le-ltb _ _ c.if-n-lt10.false)))

@@ -10,7 +10,7 @@ unfolding is_hex
 is_hex_spec =
     tie.close
     (tie.spec
-    (λ c. simp (lt-leb _ _ c.if1.true, lt-leb 97 c.before.args.b (omega arith)))
-    (λ c. simp (le-leb _ _ c.before.if1.false, lt-ltb _ _ c.if2.true))
-    (λ c. simp (le-leb _ _ c.before.before.if1.false, le-ltb _ _ c.before.if2.false, lt-leb _ _ c.if3.true))
-    (λ c. simp (le-leb _ _ c.before.before.if1.false, le-ltb _ _ c.before.if2.false, le-leb _ _ c.if3.false)))
+    (λ c. simp (lt-leb _ _ c.if-b-lt48.true, lt-leb 97 c.before.args.b (omega arith)))
+    (λ c. simp (le-leb _ _ c.before.if-b-lt48.false, lt-ltb _ _ c.if-b-lt58.true))
+    (λ c. simp (le-leb _ _ c.before.before.if-b-lt48.false, le-ltb _ _ c.before.if-b-lt58.false, lt-leb _ _ c.if-b-lt97.true))
+    (λ c. simp (le-leb _ _ c.before.before.if-b-lt48.false, le-ltb _ _ c.before.if-b-lt58.false, le-leb _ _ c.if-b-lt97.false)))

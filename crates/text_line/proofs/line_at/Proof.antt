@@ -8,27 +8,27 @@ use Rattle.text_line.proofs.Rows.{line_end, line_few, line_many, line_odd, line_
 use Rattle.text_line.proofs.line_at.Statement.{statement}
 use Rattle.text_line.proofs.line_at.Tie as tie
 
-unended : tie.Need-returns-5
+unended : tie.Need-returns-then-b-ne-LF
 unended c =
     let d = c.before.before.before.before.before in
     let a = d.before.before.before.args in
-    let k : get_or a.text.now (a.place + d.digits.result) 0 ≡ 10 → ⊥ = λ e. c.if5.true (c.before.byte_at.ensures ∙ e) in
-    line_open _ _ _ d.digits.ensures d.before.if1.false (omega arith) (omega arith) c.before.before.if4.false k
+    let k : get_or a.text.now (a.place + d.digits-n.result) 0 ≡ 10 → ⊥ = λ e. c.if-b-ne-LF.true (c.before.byte_at-b.ensures ∙ e) in
+    line_open _ _ _ d.digits-n.ensures d.before.if-text-place.false (omega arith) (omega arith) c.before.before.if-n-ne0.false k
 
-whole : tie.Need-returns-6
+whole : tie.Need-returns
 whole c =
     let d = c.before.before.before.before.before in
-    line_whole _ _ _ d.digits.ensures d.before.if1.false (omega arith) (omega arith) c.before.before.if4.false (sym c.before.byte_at.ensures ∙ c.if5.false)
+    line_whole _ _ _ d.digits-n.ensures d.before.if-text-place.false (omega arith) (omega arith) c.before.before.if-n-ne0.false (sym c.before.byte_at-b.ensures ∙ c.if-b-ne-LF.false)
 
 pub line_at_spec : {M : Type 1} → statement M
 line_at_spec =
     tie.close
     (tie.spec
-    (λ c. line_end _ _ c.if1.true)
+    (λ c. line_end _ _ c.if-text-place.true)
     (λ c κs. search rules)
-    (λ c. line_few _ _ _ c.before.digits.ensures c.before.before.if1.false (omega arith))
-    (λ c. line_many _ _ _ c.before.before.digits.ensures c.before.before.before.if1.false (omega arith))
-    (λ c. line_odd _ _ _ c.before.before.before.digits.ensures c.before.before.before.before.if1.false (omega arith) (omega arith) c.if4.true)
+    (λ c. line_few _ _ _ c.before.digits-n.ensures c.before.before.if-text-place.false (omega arith))
+    (λ c. line_many _ _ _ c.before.before.digits-n.ensures c.before.before.before.if-text-place.false (omega arith))
+    (λ c. line_odd _ _ _ c.before.before.before.digits-n.ensures c.before.before.before.before.if-text-place.false (omega arith) (omega arith) c.if-n-ne0.true)
     (λ c. search rules)
     (λ c κs. search rules)
     unended

@@ -9,36 +9,36 @@ use Rattle.text_line.proofs.Values.{num_more, num_below, value_small}
 use Rattle.text_line.proofs.number_past.Statement.{statement}
 use Rattle.text_line.proofs.number_past.Tie as tie
 
-abbrev invariant_loop : tie.invariant_loop
+abbrev invariant_loop : tie.invariant-loop-i
 invariant_loop text place width v₀ i₀ v i = (i ≤ width) × (v ≡ num_at i text place)
 
-abbrev decreases_loop : tie.decreases_loop
+abbrev decreases_loop : tie.decreases-loop-i
 decreases_loop text place width v₀ i₀ v i = width - i
 
-times : tie.Need-overflow-mul-v invariant_loop decreases_loop
+times : tie.Need-overflow_mul-v invariant_loop decreases_loop
 times c =
     let a = c.before.before.before.before.before.args in
-    let i = c.before.before.before.loop.i in
-    omega (arith, c.before.before.before.loop.invariant.1, num_below i 15 a.text.now a.place (omega arith))
+    let i = c.before.before.before.loop-i.i in
+    omega (arith, c.before.before.before.loop-i.invariant.1, num_below i 15 a.text.now a.place (omega arith))
 
-plus : tie.Need-overflow-add-v invariant_loop decreases_loop
+plus : tie.Need-overflow_add-v invariant_loop decreases_loop
 plus c =
     let a = c.before.before.before.before.before.args in
-    let i = c.before.before.before.loop.i in
-    omega (arith, c.before.before.before.loop.invariant.1, num_below i 15 a.text.now a.place (omega arith), c.digit_value.ensures, value_small c.before.byte_at.result)
+    let i = c.before.before.before.loop-i.i in
+    omega (arith, c.before.before.before.loop-i.invariant.1, num_below i 15 a.text.now a.place (omega arith), c.digit_value-d.ensures, value_small c.before.byte_at.result)
 
-again : tie.Need-loop-preserved invariant_loop decreases_loop
+again : tie.Need-loop-i-preserved invariant_loop decreases_loop
 again c =
     let a = c.before.before.before.before.before.args in
-    let i = c.before.before.before.loop.i in
-    let e : c.digit_value.result ≡ digit_value (get_or a.text.now (a.place + i) 0) = cc in
-    (search rules, omega (arith, c.before.before.before.loop.invariant.1, e, num_more i a.text.now a.place))
+    let i = c.before.before.before.loop-i.i in
+    let e : c.digit_value-d.result ≡ digit_value (get_or a.text.now (a.place + i) 0) = cc in
+    (search rules, omega (arith, c.before.before.before.loop-i.invariant.1, e, num_more i a.text.now a.place))
 
 ends : tie.Need-returns invariant_loop decreases_loop
 ends c =
     let a = c.before.before.before.args in
-    let e : c.before.loop.i ≡ a.width = omega arith in
-    c.before.loop.invariant.1 ∙ ap (λ (m : ℕ). num_at m a.text.now a.place) e
+    let e : c.before.loop-i.i ≡ a.width = omega arith in
+    c.before.loop-i.invariant.1 ∙ ap (λ (m : ℕ). num_at m a.text.now a.place) e
 
 pub number_past_spec : {M : Type 1} → statement M
 unfolding num_at

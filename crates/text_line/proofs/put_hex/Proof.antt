@@ -10,18 +10,18 @@ use Rattle.text_line.proofs.Out.{hex_more}
 use Rattle.text_line.proofs.put_hex.Statement.{statement}
 use Rattle.text_line.proofs.put_hex.Tie as tie
 
-abbrev invariant_loop : tie.invariant_loop
+abbrev invariant_loop : tie.invariant-loop-i
 invariant_loop buffer₀ place width v i₀ x₀ buffer i x = (i ≤ width) × ((length buffer ≡ length buffer₀) × (sets buffer₀ place (hex_digits width v) ≡ sets buffer place (hex_digits i x)))
 
-abbrev decreases_loop : tie.decreases_loop
+abbrev decreases_loop : tie.decreases-loop-i
 decreases_loop buffer₀ place width v i₀ x₀ buffer i x = i
 
-again : tie.Need-loop-preserved invariant_loop decreases_loop
+again : tie.Need-loop-i-preserved invariant_loop decreases_loop
 again c =
     let a = c.before.before.before.before.args in
-    let l = c.before.before.loop in
+    let l = c.before.before.loop-i in
     let e : l.i ≡ l.i - 1 + 1 = omega arith in
-    let d : c.hex-digit.result ≡ hex_of (l.x % 16) = c.hex-digit.ensures in (
+    let d : c.hex_digit-d.result ≡ hex_of (l.x % 16) = c.hex_digit-d.ensures in (
       omega arith,
       (
         simp length-set l.invariant.1.0,
@@ -34,7 +34,7 @@ ends : tie.Need-returns invariant_loop decreases_loop
 unfolding hex_digits
 ends c =
     let a = c.before.before.before.args in
-    let l = c.before.loop in
+    let l = c.before.loop-i in
     let e : l.i ≡ 0 = omega arith in
     (refl, sym (l.invariant.1.1 ∙ ap (λ (m : ℕ). sets l.buffer a.place (hex_digits m l.x)) e))
 

@@ -7,19 +7,19 @@ use Rattle.text_line.proofs.Out.{line_put}
 use Rattle.text_line.proofs.put_line.Statement.{statement}
 use Rattle.text_line.proofs.put_line.Tie as tie
 
-same : tie.Need-same-length
+same : tie.Need-shape_of-buffer
 same c =
     let y = c.before.before in
     let x = y.before.before.before.before in
-    simp length-set (y.put-hex2.auto.0 ∙ x.put-hex.auto.0)
+    simp length-set (y.put_hex-b.auto.buffer ∙ x.put_hex-a.auto.buffer)
 
 stored : tie.Need-returns
 stored c =
     let y = c.before.before in
     let x = y.before.before.before.before in
     let a = x.before.before.before.args in (
-      omega (arith, y.put-hex2.ensures.0, x.put-hex.ensures.0),
-      line_put a.buffer.now a.place a.before a.head a.behind a.tail _ _ _ _ x.put-hex.ensures y.put-hex2.ensures,
+      omega (arith, y.put_hex-b.ensures.0, x.put_hex-a.ensures.0),
+      line_put a.buffer.now a.place a.before a.head a.behind a.tail _ _ _ _ x.put_hex-a.ensures y.put_hex-b.ensures,
     )
 
 pub put_line_spec : {M : Type 1} → statement M

@@ -10,28 +10,28 @@ use Rattle.text_sets.proofs.Slots.{rest, rest_all, rest_length, rest_none, store
 use Rattle.text_sets.proofs.put_sets.Statement.{statement}
 use Rattle.text_sets.proofs.put_sets.Tie as tie
 
-abbrev invariant_loop : tie.invariant_loop
+abbrev invariant_loop : tie.invariant-loop-x
 invariant_loop table held nodes sets buffer₀ place most at₀ x₀ buffer at x =
     (x ≤ most) × ((length buffer ≡ length buffer₀) × ((at + length (rest table (take nodes held) sets most x) ≡ place + length (told_from table (take nodes held) sets 0 (8 * nodes)))
     × (setsAt buffer₀ place (told_from table (take nodes held) sets 0 (8 * nodes)) ≡ setsAt buffer at (rest table (take nodes held) sets most x))))
 
-abbrev decreases_loop : tie.decreases_loop
+abbrev decreases_loop : tie.decreases-loop-x
 decreases_loop table held nodes sets buffer₀ place most at₀ x₀ buffer at x = most - x
 
-put_slot_requires : tie.Need-put-slot-requires invariant_loop decreases_loop
+put_slot_requires : tie.Need-put_slot-at-requires invariant_loop decreases_loop
 put_slot_requires c κs =
     let s = c.before.before.before.before.before.before in
     let a = s.args in
-    let l = c.before.before.loop in
+    let l = c.before.before.loop-x in
     let h : l.x < 8 * a.nodes = omega arith in
     let r = rest_length a.table.now (take a.nodes a.held.now) a.sets.now (8 * a.nodes) l.x h in
     (s.requires.0, (h, omega (arith, s.requires.1, l.invariant.1.0, l.invariant.1.1.0)))
 
-loop_again : tie.Need-loop-preserved invariant_loop decreases_loop
+loop_again : tie.Need-loop-x-preserved invariant_loop decreases_loop
 loop_again c =
     let a = c.before.before.before.before.before.before.before.before.before.args in
-    let l = c.before.before.before.before.before.loop in
-    let f = c.before.before.put-slot in
+    let l = c.before.before.before.before.before.loop-x in
+    let f = c.before.before.put_slot-at in
     let ns = take a.nodes a.held.now in
     let h : l.x < 8 * a.nodes = omega arith in
     let r = rest_length a.table.now ns a.sets.now (8 * a.nodes) l.x h in
@@ -50,7 +50,7 @@ loop_again c =
 returns : tie.Need-returns invariant_loop decreases_loop
 returns c =
     let a = c.before.before.before.before.before.args in
-    let l = c.before.loop in
+    let l = c.before.loop-x in
     let n = rest_none a.table.now (take a.nodes a.held.now) a.sets.now (8 * a.nodes) l.x (omega arith) in
     (omega (arith, ap length n, l.invariant.1.1.0), sym (l.invariant.1.1.1 ∙ ap (setsAt l.buffer l.at) n))
 
@@ -69,5 +69,5 @@ put_sets_spec =
     (λ c. omega arith)
     (λ c. omega arith)
     loop_again
-    (λ c. c.before.loop.invariant.1.0)
+    (λ c. c.before.loop-x.invariant.1.0)
     returns)

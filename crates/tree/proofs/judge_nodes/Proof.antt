@@ -8,14 +8,14 @@ use Rattle.tree.proofs.Walks.{known}
 use Rattle.tree.proofs.judge_nodes.Statement.{statement}
 use Rattle.tree.proofs.judge_nodes.Tie as tie
 
-none_left : tie.Need-returns
+none_left : tie.Need-returns-then-productions-next
 none_left c =
     let s = c.before.before.before.before.before.before in
     let b = c.before.before in
     let h = known s.args.table.now s.args.productions.now 0 _ (_ ∷ []) b.next.given.1 b.before.before.subtree.ensures in
     sym (h.rest [] ∙ judge_done s.args.table.now s.args.productions.now b.next.given.0.0 (omega arith))
 
-left_number : tie.Need-returns-2
+left_number : tie.Need-returns-then-production_count-over
 left_number c =
     let d = c.before.before.before.before in
     let s = d.before.before.before.before.before.before in
@@ -23,7 +23,7 @@ left_number c =
     let h = known s.args.table.now s.args.productions.now 0 _ (_ ∷ []) b.next.given.1 b.before.before.subtree.ensures in
     sym (h.rest [] ∙ judge_number s.args.table.now s.args.productions.now b.next.given.0.0 (omega arith) [] (omega arith))
 
-left_over : tie.Need-returns-3
+left_over : tie.Need-returns-else-production_count-over
 left_over c =
     let d = c.before.before.before.before in
     let s = d.before.before.before.before.before.before in
@@ -31,7 +31,7 @@ left_over c =
     let h = known s.args.table.now s.args.productions.now 0 _ (_ ∷ []) b.next.given.1 b.before.before.subtree.ensures in
     sym (h.rest [] ∙ judge_over s.args.table.now s.args.productions.now b.next.given.0.0 (omega arith) (omega arith))
 
-wrong : tie.Need-returns-4
+wrong : tie.Need-returns-in-Wrong
 wrong c =
     let s = c.before.before.before.before.before in
     let h = known s.args.table.now s.args.productions.now 0 _ (_ ∷ []) c.before.r.given.1 c.before.before.before.subtree.ensures in

@@ -9,17 +9,17 @@ use Rattle.tree.proofs.Size.{end_le, ended_more}
 use Rattle.tree.proofs.spans.Statement.{statement}
 use Rattle.tree.proofs.spans.Tie as tie
 
-abbrev invariant_loop : tie.invariant_loop
+abbrev invariant_loop : tie.invariant-loop-at
 invariant_loop table productions ends₀ at₀ ends at =
     (length ends ≡ length ends₀) × (at ≤ length productions) × (Ended table productions at ends) × ((n : ℕ) → length productions ≤ n → get_or ends n 0 ≡ get_or ends₀ n 0)
 
-abbrev decreases_loop : tie.decreases_loop
+abbrev decreases_loop : tie.decreases-loop-at
 decreases_loop table productions ends₀ at₀ ends at = at
 
-again : tie.Need-loop-preserved invariant_loop decreases_loop
+again : tie.Need-loop-at-preserved invariant_loop decreases_loop
 again c =
     let s = c.before.before.before.before.before.before in
-    let l = c.before.before.before.loop in (
+    let l = c.before.before.before.loop-at in (
       simp length-set l.invariant.0,
       omega arith,
       rw c.end_of_lem.ensures (ended_more s.args.table.now s.args.productions.now l.ends (l.at - 1) (omega arith) (λ n a b. l.invariant.2 n (omega arith) b)),
@@ -34,11 +34,11 @@ spans_spec =
     decreases_loop
     (λ c. (refl, omega arith, (λ n a b. absurd (omega arith)), λ n h. refl))
     (λ c. omega arith)
-    (λ c κs. let s = c.before.before.before.before.before in let l = c.before.before.loop in (omega arith, ((s.requires.0.0, omega arith), (s.requires.1, λ n a b. l.invariant.2 n (omega arith) b))))
-    (λ c. let s = c.before.before.before.before.before.before in let l = c.before.before.before.loop in omega (arith, s.requires.0, c.end_of_lem.ensures, end_le s.args.table.now s.args.productions.now (l.at - 1) (omega arith)))
+    (λ c κs. let s = c.before.before.before.before.before in let l = c.before.before.loop-at in (omega arith, ((s.requires.0.0, omega arith), (s.requires.1, λ n a b. l.invariant.2 n (omega arith) b))))
+    (λ c. let s = c.before.before.before.before.before.before in let l = c.before.before.before.loop-at in omega (arith, s.requires.0, c.end_of_lem.ensures, end_le s.args.table.now s.args.productions.now (l.at - 1) (omega arith)))
     (λ c. omega arith)
     (λ c. omega arith)
     (λ c. omega arith)
     again
-    (λ c. c.before.loop.invariant.0)
-    (λ c. record { long = c.before.loop.invariant.0; nodes = λ n a b. c.before.loop.invariant.2 n (omega arith) b; others = c.before.loop.invariant.3 }))
+    (λ c. c.before.loop-at.invariant.0)
+    (λ c. record { long = c.before.loop-at.invariant.0; nodes = λ n a b. c.before.loop-at.invariant.2 n (omega arith) b; others = c.before.loop-at.invariant.3 }))

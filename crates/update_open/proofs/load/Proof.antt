@@ -16,7 +16,7 @@ load_spec =
     (tie.spec
     (λ c κs. search rules)
     (λ c. search rules)
-    (λ c κs. let s = c.before.before.before.before.before.before.before.before.before.before.before.before.before.before.before.before.before in grounded s.args.table.now (memory s) s.args.«record» (sound_zero c.before.before.before.before.enum_told.given.1 c.before.before.before.before.before.before.judge-ground.ensures))
+    (λ c κs. let s = c.before.before.before.before.before.before.before.before.before.before.before.before.before.before.before.before.before in grounded s.args.table.now (memory s) s.args.«record» (sound_zero c.before.before.before.before.enum_told.given.1 c.before.before.before.before.before.before.judge_ground.ensures))
     (λ c. search rules)
     (λ c. search rules)
     (λ c. search rules)
@@ -30,4 +30,4 @@ load_spec =
     (λ c.
     let s = c.before.before.before.before.before.before.before.before.before.before.before.before.before.before in
     load_refused s.args.table.now (memory s) s.args.«record» s.args.productions.now s.args.owns.now c.before.r.given.0.0
-    (load_stopped s.args.table.now (memory s) s.args.«record» s.args.productions.now s.args.owns.now c.before.r.given.0.0 (refused_number c.before.r.given.1 c.before.before.before.judge-ground.ensures))))
+    (load_stopped s.args.table.now (memory s) s.args.«record» s.args.productions.now s.args.owns.now c.before.r.given.0.0 (refused_number c.before.r.given.1 c.before.before.before.judge_ground.ensures))))

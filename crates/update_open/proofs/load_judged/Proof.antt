@@ -17,11 +17,11 @@ use Rattle.refusal.proofs.Orders.{front}
 abbrev memory : tie.Start → Memory
 memory s = lent s.args.held.now s.args.held_owns.now s.args.sets.now s.args.earlier.now
 
-abbrev start : tie.After-enum-told → tie.Start
+abbrev start : tie.In-Sound → tie.Start
 start c = c.before.before.before.before.before.before.before.before.before
 
-none : (c : tie.After-enum-told) → refusal_by (new_order (start c).args.table.now (start c).args.«record» (start c).args.productions.now (start c).args.owns.now ++ waiver_order (start c).args.table.now (start c).args.productions.now) ≡ 0
-none c = sound_zero c.enum_told.given.1 c.before.before.judge-loaded.ensures
+none : (c : tie.In-Sound) → refusal_by (new_order (start c).args.table.now (start c).args.«record» (start c).args.productions.now (start c).args.owns.now ++ waiver_order (start c).args.table.now (start c).args.productions.now) ≡ 0
+none c = sound_zero c.enum_told.given.1 c.before.before.judge_loaded.ensures
 
 pub load_judged_spec : {M : Type 1} → statement M
 load_judged_spec =
@@ -46,10 +46,10 @@ load_judged_spec =
     let m = memory s in
     let ns = s.args.productions.now in
     let owns = s.args.owns.now in
-    let p = c.before.before.before.before.before.before.before.before.before.before.place-tree.ensures in
-    load_carried s.args.table.now m s.args.«record» ns owns _ _ _ (load_past s.args.table.now m s.args.«record» ns owns s.requires ∙ none c.before.before.before.before.before.before.before.before.before.before.before.before.before.before.before) c.before.one_point.ensures c.just-opened.ensures
+    let p = c.before.before.before.before.before.before.before.before.before.before.place_tree.ensures in
+    load_carried s.args.table.now m s.args.«record» ns owns _ _ _ (load_past s.args.table.now m s.args.«record» ns owns s.requires ∙ none c.before.before.before.before.before.before.before.before.before.before.before.before.before.before.before) c.before.one_point.ensures c.just_opened-next.ensures
     (is_loaded m _ ns owns p.0 p.1.0 p.1.1.0 p.1.1.1))
     (λ c.
     let s = c.before.before.before.before.before.before.before.before.before.before in
     load_refused s.args.table.now (memory s) s.args.«record» s.args.productions.now s.args.owns.now c.before.r.given.0.0
-    (refused_number c.before.r.given.1 c.before.before.before.judge-loaded.ensures ∙ sym (load_past s.args.table.now (memory s) s.args.«record» s.args.productions.now s.args.owns.now s.requires))))
+    (refused_number c.before.r.given.1 c.before.before.before.judge_loaded.ensures ∙ sym (load_past s.args.table.now (memory s) s.args.«record» s.args.productions.now s.args.owns.now s.requires))))

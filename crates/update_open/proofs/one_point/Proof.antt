@@ -5,7 +5,7 @@ use borrow.Author.Rules.{rules}
 use Rattle.update_open.proofs.one_point.Statement.{statement}
 use Rattle.update_open.proofs.one_point.Tie as tie
 
-array_set_from_points : tie.Need-array-set-from-points
+array_set_from_points : tie.Need-bounds-points-0
 array_set_from_points c = search rules
 
 returns : tie.Need-returns

@@ -7,14 +7,14 @@ use Rattle.wire.proofs.Naming.{Moving, moving_none, moving_more, moving_all}
 use Rattle.wire.proofs.name_next.Statement.{statement}
 use Rattle.wire.proofs.name_next.Tie as tie
 
-abbrev invariant_loop : tie.invariant_loop
+abbrev invariant_loop : tie.invariant-loop-i
 invariant_loop named₀ q i₀ named i = (i ≤ 8) × Moving q i named
 
-abbrev decreases_loop : tie.decreases_loop
+abbrev decreases_loop : tie.decreases-loop-i
 decreases_loop named₀ q i₀ named i = 8 - i
 
-name : (c : tie.In-loop invariant_loop decreases_loop) → get_or c.before.loop.named c.before.loop.i 0 ≡ 8 * c.before.before.args.q + c.before.loop.i
-name c = c.before.loop.invariant.1.rest c.before.loop.i (omega arith) c.loop-test.true
+name : (c : tie.In-loop-i invariant_loop decreases_loop) → get_or c.before.loop-i.named c.before.loop-i.i 0 ≡ 8 * c.before.before.args.q + c.before.loop-i.i
+name c = c.before.loop-i.invariant.1.rest c.before.loop-i.i (omega arith) c.loop-i-test.true
 
 pub name_next_spec : {M : Type 1} → statement M
 name_next_spec =
@@ -23,11 +23,11 @@ name_next_spec =
     invariant_loop
     decreases_loop
     (λ c. (omega arith, moving_none _ _ c.requires.1))
-    (λ c. omega (arith, c.loop-test.true))
-    (λ c. omega (arith, c.loop-test.true, c.before.loop.invariant.1.long))
-    (λ c. let i = c.before in omega (arith, i.loop-test.true, name i, i.before.before.requires.0))
-    (λ c. let i = c.before in omega (arith, i.loop-test.true, i.before.loop.invariant.1.long))
-    (λ c. omega (arith, c.before.loop-test.true))
-    (λ c. omega (arith, c.before.loop-test.true))
-    (λ c. let i = c.before in (omega (arith, i.loop-test.true), moving_more _ _ _ i.loop-test.true i.before.loop.invariant.1))
-    (λ c. moving_all _ _ _ (omega (arith, c.loop-test.false)) c.before.loop.invariant.1))
+    (λ c. omega (arith, c.loop-i-test.true))
+    (λ c. omega (arith, c.loop-i-test.true, c.before.loop-i.invariant.1.long))
+    (λ c. let i = c.before in omega (arith, i.loop-i-test.true, name i, i.before.before.requires.0))
+    (λ c. let i = c.before in omega (arith, i.loop-i-test.true, i.before.loop-i.invariant.1.long))
+    (λ c. omega (arith, c.before.loop-i-test.true))
+    (λ c. omega (arith, c.before.loop-i-test.true))
+    (λ c. let i = c.before in (omega (arith, i.loop-i-test.true), moving_more _ _ _ i.loop-i-test.true i.before.loop-i.invariant.1))
+    (λ c. moving_all _ _ _ (omega (arith, c.loop-i-test.false)) c.before.loop-i.invariant.1))

@@ -5,10 +5,10 @@ use Rattle.wire.proofs.Naming.{Starting, starting_none, starting_more, starting_
 use Rattle.wire.proofs.name_root.Statement.{statement}
 use Rattle.wire.proofs.name_root.Tie as tie
 
-abbrev invariant_loop : tie.invariant_loop
+abbrev invariant_loop : tie.invariant-loop-i
 invariant_loop named₀ i₀ named i = (i ≤ 8) × Starting i named
 
-abbrev decreases_loop : tie.decreases_loop
+abbrev decreases_loop : tie.decreases-loop-i
 decreases_loop named₀ i₀ named i = 8 - i
 
 pub name_root_spec : {M : Type 1} → statement M
@@ -18,10 +18,10 @@ name_root_spec =
     invariant_loop
     decreases_loop
     (λ c. (omega arith, starting_none _ c.requires.0 c.requires.1))
-    (λ c. omega (arith, c.loop-test.true))
-    (λ c. omega (arith, c.loop-test.true))
-    (λ c. omega (arith, c.loop-test.true, c.before.loop.invariant.1.long))
-    (λ c. omega (arith, c.loop-test.true))
-    (λ c. omega (arith, c.loop-test.true))
-    (λ c. (omega (arith, c.loop-test.true), starting_more _ _ c.loop-test.true c.before.loop.invariant.1))
-    (λ c. starting_all _ _ (omega (arith, c.loop-test.false)) c.before.loop.invariant.1))
+    (λ c. omega (arith, c.loop-i-test.true))
+    (λ c. omega (arith, c.loop-i-test.true))
+    (λ c. omega (arith, c.loop-i-test.true, c.before.loop-i.invariant.1.long))
+    (λ c. omega (arith, c.loop-i-test.true))
+    (λ c. omega (arith, c.loop-i-test.true))
+    (λ c. (omega (arith, c.loop-i-test.true), starting_more _ _ c.loop-i-test.true c.before.loop-i.invariant.1))
+    (λ c. starting_all _ _ (omega (arith, c.loop-i-test.false)) c.before.loop-i.invariant.1))

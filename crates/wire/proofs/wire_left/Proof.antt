@@ -12,7 +12,7 @@ use Rattle.wire.proofs.Turning.{symbol_small}
 use Rattle.wire.proofs.wire_left.Statement.{statement}
 use Rattle.wire.proofs.wire_left.Tie as tie
 
-module _ (w : tie.After-index) where
+module _ (w : tie.After-index-p) where
   abbrev s : tie.Start
   s = w.before.before.before.before.before.before.before
 
@@ -22,23 +22,23 @@ module _ (w : tie.After-index) where
   abbrev ns : List ℕ
   ns = s.args.productions.now
 
-  production : w.index.result ≡ get_or ns s.args.q 0
-  production = w.index.ensures.0
+  production : w.index-p.result ≡ get_or ns s.args.q 0
+  production = w.index-p.ensures.0
 
-  few : w.index.result < 64
-  few = omega (arith, production, number_in t ns s.pre.0.judged s.pre.0.sound s.args.q s.pre.1.0, (limits t s.pre.0.judged).productions)
+  few : w.index-p.result < 64
+  few = omega (arith, production, number_in t ns s.requires.0.judged s.requires.0.sound s.args.q s.requires.1.0, (limits t s.requires.0.judged).productions)
 
-symbol : (g : tie.After-left-of) → g.left-of.result < 32
+symbol : (g : tie.After-left_of) → g.left_of.result < 32
 symbol g =
     let w = g.before in
-    rw (g.left-of.ensures, production w) (symbol_small (t w) (ns w) (s w).requires.0 (s w).args.q (s w).requires.1.0 0 zero-le)
+    rw (g.left_of.ensures, production w) (symbol_small (t w) (ns w) (s w).requires.0 (s w).args.q (s w).requires.1.0 0 zero-le)
 
-every_set : (c : tie.After-synthesized-of) → let w = c.before.before in c.synthesized-of.result ≡ defined (t w) (get_or (ns w) (s w).args.q 0) 0
+every_set : (c : tie.After-synthesized_of-count) → let w = c.before.before in c.synthesized_of-count.result ≡ defined (t w) (get_or (ns w) (s w).args.q 0) 0
 every_set c =
     let w = c.before.before in
-    c.synthesized-of.ensures ∙ ap (synthesized (t w)) (c.before.left-of.ensures ∙ ap (left_of (t w)) (production w))
+    c.synthesized_of-count.ensures ∙ ap (synthesized (t w)) (c.before.left_of.ensures ∙ ap (left_of (t w)) (production w))
 
-sets : tie.Need-wire-sets-requires
+sets : tie.Need-wire_sets-requires
 sets c κs =
     let g = c.before.before.before.before in
     let w = g.before.before in

@@ -17,14 +17,14 @@ use Rattle.wire.proofs.Turning.{few_children, shaped, slot_has, slot_below, slot
 use Rattle.wire.proofs.wire_sets.Statement.{statement}
 use Rattle.wire.proofs.wire_sets.Tie as tie
 
-abbrev invariant_loop : tie.invariant_loop
+abbrev invariant_loop : tie.invariant-loop-i
 invariant_loop table productions beyond named q at number heads from count a₀ b₀ left₀ rule₀ i₀ a b left rule i =
     (i ≤ count) × Partly table productions (20 * q + 4 * at + i) a b left rule × Stay (8 * length productions) a₀ b₀ left₀ rule₀ a b left rule
 
-abbrev decreases_loop : tie.decreases_loop
+abbrev decreases_loop : tie.decreases-loop-i
 decreases_loop table productions beyond named q at number heads from count a₀ b₀ left₀ rule₀ i₀ a b left rule i = 4 - i
 
-abbrev st : tie.After-slice-known4 invariant_loop decreases_loop → tie.Start invariant_loop decreases_loop
+abbrev st : tie.After-slice_known-4-1 invariant_loop decreases_loop → tie.Start invariant_loop decreases_loop
 st c = c.before.before.before.before.before
 
 module _ (s : tie.Start invariant_loop decreases_loop) where
@@ -38,50 +38,50 @@ module _ (s : tie.Start invariant_loop decreases_loop) where
   p = get_or ns s.args.q 0
 
   sets : Sets t ns s.args.q s.args.at s.args.number s.args.heads s.args.from s.args.count
-  sets = s.pre.1.1.0
+  sets = s.requires.1.1.0
 
   few : s.args.count ≤ 4
-  few = omega (arith, sets.every, (shaped t ns s.pre.0 s.args.q s.pre.1.0).few s.args.at sets.within)
+  few = omega (arith, sets.every, (shaped t ns s.requires.0 s.args.q s.requires.1.0).few s.args.at sets.within)
 
   places : (s.args.at ≤ 4) × (p < 64)
   places = (
-    omega (arith, sets.within, few_children t ns s.pre.0 s.args.q s.pre.1.0),
-    omega (arith, number_in t ns s.pre.0.judged s.pre.0.sound s.args.q s.pre.1.0, (limits t s.pre.0.judged).productions),
+    omega (arith, sets.within, few_children t ns s.requires.0 s.args.q s.requires.1.0),
+    omega (arith, number_in t ns s.requires.0.judged s.requires.0.sound s.args.q s.requires.1.0, (limits t s.requires.0.judged).productions),
   )
 
 -- ---- a turn
 
-module _ (e : tie.Else1 invariant_loop decreases_loop) where
-  abbrev l : tie.At-loop invariant_loop decreases_loop
+module _ (e : tie.Else-count-i invariant_loop decreases_loop) where
+  abbrev l : tie.At-loop-i invariant_loop decreases_loop
   l = e.before.before
 
   abbrev o : tie.Start invariant_loop decreases_loop
   o = st l.before
 
   abbrev i : ℕ
-  i = l.loop.i
+  i = l.loop-i.i
 
   turns : i < 4
-  turns = e.before.loop-test.taken
+  turns = e.before.loop-i-test.taken
 
   within : i < defined (t o) (p o) o.args.at
-  within = omega (arith, e.if1.left, (sets o).every)
+  within = omega (arith, e.if-count-i.left, (sets o).every)
 
   -- the slot of the set
   slot_is : o.args.from + i ≡ 8 * spot (t o) (ns o) o.args.q o.args.at + (first_index o.args.at + i)
   slot_is = omega (arith, (sets o).slots)
 
   below : o.args.from + i < 8 * length (ns o)
-  below = rw slot_is (slot_below (t o) (ns o) o.pre.0 o.args.q o.pre.1.0 o.args.at i (sets o).within within)
+  below = rw slot_is (slot_below (t o) (ns o) o.requires.0 o.args.q o.requires.1.0 o.args.at i (sets o).within within)
 
   small : o.args.from + i < 4096
-  small = omega (arith, below, o.pre.0.few)
+  small = omega (arith, below, o.requires.0.few)
 
-  room : Room (8 * length (ns o)) l.loop.a l.loop.b l.loop.left l.loop.rule
-  room = stay_room l.loop.inv.2 o.pre.1.1.1.1.1.0
+  room : Room (8 * length (ns o)) l.loop-i.a l.loop-i.b l.loop-i.left l.loop-i.rule
+  room = stay_room l.loop-i.invariant.2 o.requires.1.1.1.1.1.0
 
   has : Has (t o) (p o) o.args.at i
-  has = slot_has (t o) (ns o) o.pre.0 o.args.q o.pre.1.0 o.args.at i (sets o).within within
+  has = slot_has (t o) (ns o) o.requires.0 o.args.q o.requires.1.0 o.args.at i (sets o).within within
 
   -- its rule, and the rule's head
   rule_small : o.args.number + i < 1280
@@ -97,50 +97,50 @@ module _ (e : tie.Else1 invariant_loop decreases_loop) where
       let w : o.args.heads + 2 * i ≡ 97 + 2 * (20 * p o + (4 * o.args.at + i)) = omega (arith, (sets o).rules, (sets o).words) in
       ap (λ n. get_or (t o) n 0) w
 
-holds : tie.Need-loop-init invariant_loop decreases_loop
+holds : tie.Need-loop-i-init invariant_loop decreases_loop
 holds c = (omega arith, rw add-zero (st c).requires.1.1.1.1.1.1, stay_refl _ _ _ _ _)
 
-fits : tie.Need-reads-in-requires invariant_loop decreases_loop
+fits : tie.Need-reads_in-reads-requires invariant_loop decreases_loop
 fits c κs =
     let e = c.before in
     let s = o e in
-    let n = s.pre.1.1.1.1.0 in (
-      s.pre.1.1.1.0,
+    let n = s.requires.1.1.1.1.0 in (
+      s.requires.1.1.1.0,
       (
         n.own.none,
         (
-          rw (head_is e) (op_known (t s) (ns s) s.args.named.now s.pre.0 s.args.q s.pre.1.0 n s.args.at (i e) (has e)),
+          rw (head_is e) (op_known (t s) (ns s) s.args.named.now s.requires.0 s.args.q s.requires.1.0 n s.args.at (i e) (has e)),
           (
-            rw (head_is e) (fit_first (t s) (ns s) s.args.named.now s.pre.0 s.args.q s.pre.1.0 n s.args.at (i e) (has e)),
-            rw (head_is e) (fit_second (t s) (ns s) s.args.named.now s.pre.0 s.args.q s.pre.1.0 n s.args.at (i e) (has e)),
+            rw (head_is e) (fit_first (t s) (ns s) s.args.named.now s.requires.0 s.args.q s.requires.1.0 n s.args.at (i e) (has e)),
+            rw (head_is e) (fit_second (t s) (ns s) s.args.named.now s.requires.0 s.args.q s.requires.1.0 n s.args.at (i e) (has e)),
           ),
         ),
       ),
     )
 
-again : tie.Need-loop-preserved invariant_loop decreases_loop
+again : tie.Need-loop-i-preserved invariant_loop decreases_loop
 again c =
     let e = c.before.before in
     let s = o e in
-    let k = (l e).loop in
-    let n = s.pre.1.1.1.1.0 in
+    let k = (l e).loop-i in
+    let n = s.requires.1.1.1.1.0 in
     let h = head_is e in
-    let r = c.reads_in.ensures in (
-      omega (arith, e.if1.false),
-      slot_turn (t s) (ns s) s.pre.0 s.args.q s.pre.1.0 s.args.at (i e) (sets s).within (within e) _ k.a k.b k.left k.rule _ _ _ _ (slot_is e)
-          (rw h at r.0 ∙ first_read (t s) (ns s) s.args.named.now s.pre.0 s.args.q s.pre.1.0 n s.args.at (i e) (has e))
-          (rw h at r.1 ∙ second_read (t s) (ns s) s.args.named.now s.pre.0 s.args.q s.pre.1.0 n s.args.at (i e) (has e))
-          refl (rule_is e) (room e) k.inv.1,
-      stay_set _ _ _ _ _ k.a k.b k.left k.rule _ _ _ _ _ (below e) k.inv.2,
+    let r = c.reads_in-reads.ensures in (
+      omega (arith, e.if-count-i.false),
+      slot_turn (t s) (ns s) s.requires.0 s.args.q s.requires.1.0 s.args.at (i e) (sets s).within (within e) _ k.a k.b k.left k.rule _ _ _ _ (slot_is e)
+          (rw h at r.0 ∙ first_read (t s) (ns s) s.args.named.now s.requires.0 s.args.q s.requires.1.0 n s.args.at (i e) (has e))
+          (rw h at r.1 ∙ second_read (t s) (ns s) s.args.named.now s.requires.0 s.args.q s.requires.1.0 n s.args.at (i e) (has e))
+          refl (rule_is e) (room e) k.invariant.1,
+      stay_set _ _ _ _ _ k.a k.b k.left k.rule _ _ _ _ _ (below e) k.invariant.2,
     )
 
 -- behind the last set comes the next position
-ends : (l : tie.At-loop invariant_loop decreases_loop) → let s = st l.before in s.args.count ≤ l.loop.i
-    → Partly (t s) (ns s) (20 * s.args.q + 4 * (s.args.at + 1)) l.loop.a l.loop.b l.loop.left l.loop.rule
+ends : (l : tie.At-loop-i invariant_loop decreases_loop) → let s = st l.before in s.args.count ≤ l.loop-i.i
+    → Partly (t s) (ns s) (20 * s.args.q + 4 * (s.args.at + 1)) l.loop-i.a l.loop-i.b l.loop-i.left l.loop-i.rule
 ends l h =
     let s = st l.before in
-    let e : l.loop.i ≡ defined (t s) (p s) s.args.at = omega (arith, l.loop.invariant.0, (sets s).every) in
-    skip_position (t s) (ns s) s.pre.0 s.args.q s.pre.1.0 s.args.at _ _ _ _ (sets s).within (rw e at l.loop.invariant.1)
+    let e : l.loop-i.i ≡ defined (t s) (p s) s.args.at = omega (arith, l.loop-i.invariant.0, (sets s).every) in
+    skip_position (t s) (ns s) s.requires.0 s.args.q s.requires.1.0 s.args.at _ _ _ _ (sets s).within (rw e at l.loop-i.invariant.1)
 
 pub wire_sets_spec : {M : Type 1} → statement M
 wire_sets_spec =
@@ -149,11 +149,11 @@ wire_sets_spec =
     invariant_loop
     decreases_loop
     holds
-    (λ c. c.before.before.loop.invariant.2.firsts.long)
-    (λ c. c.before.before.loop.invariant.2.seconds.long)
-    (λ c. c.before.before.loop.invariant.2.lefts.long)
-    (λ c. c.before.before.loop.invariant.2.rules.long)
-    (λ c. (ends c.before.before c.if1.true, c.before.before.loop.invariant.2))
+    (λ c. c.before.before.loop-i.invariant.2.firsts.long)
+    (λ c. c.before.before.loop-i.invariant.2.seconds.long)
+    (λ c. c.before.before.loop-i.invariant.2.lefts.long)
+    (λ c. c.before.before.loop-i.invariant.2.rules.long)
+    (λ c. (ends c.before.before c.if-count-i.true, c.before.before.loop-i.invariant.2))
     (λ c. omega (arith, turns c))
     (λ c. omega (arith, turns c, (sets (o c)).words, rule_small c))
     (λ c. omega (arith, turns c, (sets (o c)).words, rule_small c))
@@ -164,7 +164,7 @@ wire_sets_spec =
     (λ c. omega (arith, below c.before.before, (room c.before.before).firsts))
     (λ c. omega (arith, small c.before.before))
     (λ c. omega (arith, below c.before.before, (room c.before.before).seconds))
-    (λ c. let s = o c.before.before in omega (arith, s.pre.1.0, s.pre.0.few, small c.before.before))
+    (λ c. let s = o c.before.before in omega (arith, s.requires.1.0, s.requires.0.few, small c.before.before))
     (λ c. omega (arith, small c.before.before))
     (λ c. omega (arith, below c.before.before, (room c.before.before).lefts))
     (λ c. omega (arith, rule_small c.before.before))
@@ -174,8 +174,8 @@ wire_sets_spec =
     (λ c. omega (arith, turns c.before.before))
     (λ c. omega (arith, turns c.before.before))
     again
-    (λ c. c.before.loop.invariant.2.firsts.long)
-    (λ c. c.before.loop.invariant.2.seconds.long)
-    (λ c. c.before.loop.invariant.2.lefts.long)
-    (λ c. c.before.loop.invariant.2.rules.long)
-    (λ c. (ends c.before (omega (arith, few (st c.before.before), c.loop-test.false)), c.before.loop.invariant.2)))
+    (λ c. c.before.loop-i.invariant.2.firsts.long)
+    (λ c. c.before.loop-i.invariant.2.seconds.long)
+    (λ c. c.before.loop-i.invariant.2.lefts.long)
+    (λ c. c.before.loop-i.invariant.2.rules.long)
+    (λ c. (ends c.before (omega (arith, few (st c.before.before), c.loop-i-test.false)), c.before.loop-i.invariant.2)))

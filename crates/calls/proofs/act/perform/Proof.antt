@@ -3,10 +3,10 @@ use Rattle.std.proofs.Common.{◌-◌, arith, rules}
 use Rattle.calls.proofs.act.perform.Statement.{statement}
 use Rattle.calls.proofs.act.perform.Tie as tie
 
-abbrev invariant_loop : tie.invariant_loop
+abbrev invariant_loop : tie.invariant-loop-i
 invariant_loop tape nodes owns count point table held₀ held-owns₀ sets₀ before₀ r₀ i₀ i-end held held_owns sets earlier r i = Unit {0}
 
-abbrev decreases_loop : tie.decreases_loop
+abbrev decreases_loop : tie.decreases-loop-i
 decreases_loop tape nodes owns count point table held₀ held-owns₀ sets₀ before₀ r₀ i₀ i-end held held_owns sets earlier r i = i-end - i
 
 pub perform_spec : {M : Type 1} → statement M

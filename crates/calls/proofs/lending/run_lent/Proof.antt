@@ -136,7 +136,7 @@ module _ {M : Type 1} {𝓤 : Ura M} (𝓛 : Logic 𝓤) (at_mem : Memory → SP
   vals = (at_table, (mach h ∷ [], vals_behind))
 
   abbrev Post : Val → SProp 𝓤
-  Post = (walk_of 𝓛 lent.ended stayed (lent.clauses 𝓛 at_mem go)).post (((κ₁, (κ₂, tt)), (q₁, (q₂, tt)), bounds, a, vals), tt)
+  Post = (walk_of 𝓛 lent.ended stayed (lent.clauses 𝓛 at_mem go)).ensures (((κ₁, (κ₂, tt)), (q₁, (q₂, tt)), bounds, a, vals), tt)
 
   -- what is only read: the table, the nodes, their own sets, the before values
   abbrev B : Fml
@@ -173,11 +173,11 @@ module _ {M : Type 1} {𝓤 : Ura M} (𝓛 : Logic 𝓤) (at_mem : Memory → SP
     abbrev to : (Work 𝓛 at_mem go).Ghost
     to = ((lives, (full_share, (q₁, (q₂, tt))), tt, passed, (vptr l 0 ∷ [], (at_table, vals_behind))), tt)
 
-    asked : ent 𝓤 (on_entry 𝓛 run.signature lives (full_share, (q₁, (q₂, tt))) passed (vptr l 0 ∷ [], (at_table, vals_behind))) ((Work 𝓛 at_mem go).pre to)
+    asked : ent 𝓤 (on_entry 𝓛 run.signature lives (full_share, (q₁, (q₂, tt))) passed (vptr l 0 ∷ [], (at_table, vals_behind))) ((Work 𝓛 at_mem go).requires to)
     asked =
         qed 𝓛 ((‵ (flft (α ∷ []) full_share) ⊛ ‵ (flft κ₁ q₁) ⊛ ‵ (flft κ₂ q₂) ⊛ ‵ ftrue) ∷ ‵ (owns (MutRef (named 0) (α ∷ []) T.the_row ∷ ShrRef (named 1) κ₁ words ∷ ShrSlice (named 1) κ₁ u8 ∷ ShrSlice (named 1) κ₁ u64 ∷ MutSlice (named 2) κ₂ u64 ∷ ShrSlice (named 1) κ₁ u64 ∷ u64 ∷ []) passed (vptr l 0 ∷ [], (at_table, vals_behind))) ∷ []) ∵ join ! $ frame ! $ done !
 
-    goes : ent 𝓤 (⋆ 𝓛 ((‵ (flft (α ∷ []) full_share) ⊛ ‵ L) ∷ (‵ (flft κ₁ q₁) ⊛ ‵ (flft κ₂ q₂) ⊛ ‵ ftrue) ∷ ‵ Mine ∷ [])) (sep 𝓤 ((Work 𝓛 at_mem go).pre to) (sep 𝓤 (sem 𝓛 B) (sep 𝓤 (sem 𝓛 N) (sep 𝓤 (sem 𝓛 O) (sem 𝓛 P)))))
+    goes : ent 𝓤 (⋆ 𝓛 ((‵ (flft (α ∷ []) full_share) ⊛ ‵ L) ∷ (‵ (flft κ₁ q₁) ⊛ ‵ (flft κ₂ q₂) ⊛ ‵ ftrue) ∷ ‵ Mine ∷ [])) (sep 𝓤 ((Work 𝓛 at_mem go).requires to) (sep 𝓤 (sem 𝓛 B) (sep 𝓤 (sem 𝓛 N) (sep 𝓤 (sem 𝓛 O) (sem 𝓛 P)))))
     goes =
         qed 𝓛 ((‵ (flft (α ∷ []) full_share) ⊛ ‵ L) ∷ (‵ (flft κ₁ q₁) ⊛ ‵ (flft κ₂ q₂) ⊛ ‵ ftrue) ∷ ‵ Mine ∷ []) ∵ split ! $ move ! (3 ∷ []) $ fsplit ! $
         use1 𝓛 (‵ B ⊛ ‵ B) ((shr_copy 𝓛 (named 0) κ₁ words).twice table _) $ split ! $ move ! (2 ∷ []) $ fsplit ! $ drop ! $ fsplit ! $
@@ -187,7 +187,7 @@ module _ {M : Type 1} {𝓤 : Ura M} (𝓛 : Logic 𝓤) (at_mem : Memory → SP
         -- [P; P; the budget; the sets; O; O; N; N; B; B; the new token; the loan; the other tokens]
         move ! (0 ∷ 2 ∷ []) $ fjoin ! $ move ! (2 ∷ 0 ∷ []) $ fjoin ! $ move ! (2 ∷ 0 ∷ []) $ fjoin ! $ move ! (3 ∷ 0 ∷ []) $ fjoin ! $ move ! (4 ∷ 0 ∷ []) $ fjoin ! $ move ! (6 ∷ 0 ∷ []) $ fjoin ! $
         -- [what the callee is passed; what is only read; the tokens]
-        move ! (5 ∷ 6 ∷ []) $ join ! $ use2 𝓛 (raw ((Work 𝓛 at_mem go).pre to)) asked $ frame ! $ move ! (3 ∷ []) $ frame ! $ move ! (2 ∷ []) $ frame ! $ move ! (1 ∷ []) $ frame ! $ done !
+        move ! (5 ∷ 6 ∷ []) $ join ! $ use2 𝓛 (raw ((Work 𝓛 at_mem go).requires to)) asked $ frame ! $ move ! (3 ∷ []) $ frame ! $ move ! (2 ∷ []) $ frame ! $ move ! (1 ∷ []) $ frame ! $ done !
 
   -- what the callee says of its answer, the last record and the last sets
   abbrev Says : Run → Record → List ℕ → Type 0
@@ -224,7 +224,7 @@ module _ {M : Type 1} {𝓤 : Ura M} (𝓛 : Logic 𝓤) (at_mem : Memory → SP
         move ! (10 ∷ []) $ use1 𝓛 (‵ (part_at T.the_row full_share h l₈ 0)) (lies_in 𝓛 h l₈ is-record) $ lft_new ! tt (λ α. move ! (1 ∷ []) $
         use1 𝓛 (later (some (λ (δ : GName). ‵ (L α δ l₈) ⊛ ‵ (flent (α ∷ []) (Body (mem T.the_row) l₈ 0 δ))))) (lends_ref 𝓛 T.the_row (named 0) (α ∷ []) h l₈ 0) $ await ! tt $ pick ! (λ δ. split ! $
         -- [the loan; the lender's part; the new token; _13 (3); …; _9 (11); what frees _8 (13); _7 (14); …; _0 (28); …; the tokens (30); what the parameters own]
-        move ! (2 ∷ 0 ∷ 30 ∷ 31 ∷ []) $ join ! $ use3 𝓛 (raw ((Work 𝓛 at_mem go).pre (to α δ l₈)) ⊛ (‵ B ⊛ ‵ N ⊛ ‵ O ⊛ ‵ P)) (goes α δ l₈) $ split ! $
+        move ! (2 ∷ 0 ∷ 30 ∷ 31 ∷ []) $ join ! $ use3 𝓛 (raw ((Work 𝓛 at_mem go).requires (to α δ l₈)) ⊛ (‵ B ⊛ ‵ N ⊛ ‵ O ⊛ ‵ P)) (goes α δ l₈) $ split ! $
         calls_at ! fm (Work 𝓛 at_mem go) known (to α δ l₈) (and_then ! (load ! (from ! (stop !)) (look ! 9 refl)) (and_then ! (load ! (from ! (stop !)) (look ! 26 refl)) (and_then ! (load ! (from ! (stop !)) (look ! 22 refl)) (and_then ! (load ! (from ! (stop !)) (look ! 20 refl)) (and_then ! (load ! (from ! (stop !)) (look ! 5 refl)) (and_then ! (load ! (from ! (stop !)) (look ! 16 refl)) (and_then ! (load ! (from ! (stop !)) (look ! 14 refl)) (no_more !)))))))) (λ w.
         use1 𝓛 (later (some (λ (d : Run). ((‵ (flft (α ∷ []) full_share) ⊛ ‵ (flft κ₁ q₁) ⊛ ‵ (flft κ₂ q₂) ⊛ ‵ ftrue) ⊛ ‵ ((S.the_row).own_val d (w ∷ []))) ⊛ raw (ensured 𝓛 run.ended (run.clauses 𝓛 at_mem go) (lives α δ l₈) (passed α δ l₈) tt d)))) (id⊢ 𝓤 _) $ await ! tt $ pick ! (λ d.
         -- what it ensures, at some last record and some last sets
@@ -264,7 +264,7 @@ run_lent_meets {𝓤 = 𝓤} 𝓛 mem go 𝓣 known =
 pub run_lent_spec : {M : Type 1} → stated.statement M
 unfolding code.routine tables_of
 run_lent_spec 𝓤 𝓛 𝓜 𝓡 =
-    entered 𝓤 𝓛.H (triple_of 𝓛 lent.signature (lent.spec 𝓛 𝓜.mem 𝓡.run))
+    entered 𝓤 𝓛.H (triple_of 𝓛 lent.signature (lent.spec 𝓛 𝓜.mem 𝓡.run-answer))
     (tables 𝓤 𝓛.H 𝓜 𝓡 code.env).C (tables 𝓤 𝓛.H 𝓜 𝓡 code.env).Λ #run-lent code.function (code.unfolded 𝓤 𝓛.H 𝓜 𝓡)
-    (run_lent_meets 𝓛 𝓜.mem 𝓡.run (tables_of 𝓤 𝓛.H 𝓜 (tables 𝓤 𝓛.H 𝓜 𝓡 code.env))
-    (cited 𝓤 𝓛.H (Work 𝓛 𝓜.mem 𝓡.run) 𝓜 𝓡 code.env #run run-def.routine code.calls-engine::run (run-thm.met 𝓤 𝓛 𝓜 𝓡)))
+    (run_lent_meets 𝓛 𝓜.mem 𝓡.run-answer (tables_of 𝓤 𝓛.H 𝓜 (tables 𝓤 𝓛.H 𝓜 𝓡 code.env))
+    (cited 𝓤 𝓛.H (Work 𝓛 𝓜.mem 𝓡.run-answer) 𝓜 𝓡 code.env #run run-def.routine code.calls-engine::run (run-thm.met 𝓤 𝓛 𝓜 𝓡)))

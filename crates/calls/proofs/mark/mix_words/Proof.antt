@@ -3,10 +3,10 @@ use Rattle.std.proofs.Common.{◌-◌, arith}
 use Rattle.calls.proofs.mark.mix_words.Statement.{statement}
 use Rattle.calls.proofs.mark.mix_words.Tie as tie
 
-abbrev invariant_loop : tie.invariant_loop
+abbrev invariant_loop : tie.invariant-loop-i
 invariant_loop mark words mixed₀ i₀ i-end mixed i = Unit {0}
 
-abbrev decreases_loop : tie.decreases_loop
+abbrev decreases_loop : tie.decreases-loop-i
 decreases_loop mark words mixed₀ i₀ i-end mixed i = i-end - i
 
 pub mix_words_spec : {M : Type 1} → statement M

@@ -3,10 +3,10 @@ use Rattle.std.proofs.Common.{◌-◌, arith}
 use Rattle.calls.proofs.reading.read_all.Statement.{statement}
 use Rattle.calls.proofs.reading.read_all.Tie as tie
 
-abbrev invariant_loop : tie.invariant_loop
+abbrev invariant_loop : tie.invariant-loop-i
 invariant_loop table «record» held held_owns sets earlier mark₀ i₀ mark i = Unit {0}
 
-abbrev decreases_loop : tie.decreases_loop
+abbrev decreases_loop : tie.decreases-loop-i
 decreases_loop table «record» held held_owns sets earlier mark₀ i₀ mark i = 4096 - i
 
 pub read_all_spec : {M : Type 1} → statement M

@@ -3,10 +3,10 @@ use Rattle.std.proofs.Common.{◌-◌, arith, rules}
 use Rattle.calls.proofs.tell.tell_others.Statement.{statement}
 use Rattle.calls.proofs.tell.tell_others.Tie as tie
 
-abbrev invariant_loop : tie.invariant_loop
+abbrev invariant_loop : tie.invariant-loop-i
 invariant_loop «record» count i₀ i = Unit {0}
 
-abbrev decreases_loop : tie.decreases_loop
+abbrev decreases_loop : tie.decreases-loop-i
 decreases_loop «record» count i₀ i = 8 - i
 
 pub tell_others_spec : {M : Type 1} → statement M
@@ -20,7 +20,7 @@ tell_others_spec =
     (λ c κs. tt)
     (λ c. tt)
     (λ c. search rules)
-    (λ c. omega (arith, c.loop-test.true))
+    (λ c. omega (arith, c.loop-i-test.true))
     (λ c κs. tt)
     (λ c. omega arith)
     (λ c. omega arith)

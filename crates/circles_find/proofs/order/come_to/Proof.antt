@@ -7,8 +7,8 @@ use Rattle.circles_find.proofs.order.come_to.Statement.{statement}
 use Rattle.circles_find.proofs.order.come_to.Tie as tie
 
 -- the argument is a slot, so it has a stage
-inside : (c : tie.Else2) → c.before.wide.result < length (set c.before.before.before.before.before.before.args.stage.now c.before.before.before.before.before.before.args.v (c.before.before.before.before.before.before.args.at + 1))
-inside c = omega (arith, c.if2.false, c.before.before.before.before.before.before.requires.2, length-set c.before.before.before.before.before.before.args.stage.now c.before.before.before.before.before.before.args.v (c.before.before.before.before.before.before.args.at + 1))
+inside : (c : tie.Else-n-i) → c.before.wide-i.result < length (set c.before.before.before.before.before.before.args.stage.now c.before.before.before.before.before.before.args.v (c.before.before.before.before.before.before.args.at + 1))
+inside c = omega (arith, c.if-n-i.false, c.before.before.before.before.before.before.requires.2, length-set c.before.before.before.before.before.before.args.stage.now c.before.before.before.before.before.before.args.v (c.before.before.before.before.before.before.args.at + 1))
 
 pub come_to_spec : {M : Type 1} → statement M
 come_to_spec =

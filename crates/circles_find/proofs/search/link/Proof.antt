@@ -8,12 +8,12 @@ use borrow.Author.Rules.{rules}
 use Rattle.circles_find.proofs.search.link.Statement.{statement}
 use Rattle.circles_find.proofs.search.link.Tie as tie
 
-returns : tie.Need-returns
+returns : tie.Need-returns-then-i-n
 returns c = let s = c.before.before.before.before.before.args in
-    subst (λ (u : ℕ). Linked s.n s.y s.e s.first.now s.next.now (set s.first.now u s.e) (set s.next.now s.e (get_or s.first.now u 0))) (sym c.before.before.wide.ensures) (on (omega (arith, c.before.before.wide.ensures, c.before.if1.true)) refl refl)
+    subst (λ (u : ℕ). Linked s.n s.y s.e s.first.now s.next.now (set s.first.now u s.e) (set s.next.now s.e (get_or s.first.now u 0))) (sym c.before.before.wide-i.ensures) (on (omega (arith, c.before.before.wide-i.ensures, c.before.if-i-n.true)) refl refl)
 
-returns_2 : tie.Need-returns-2
-returns_2 c = off (omega (arith, c.before.wide.ensures, c.if1.false)) refl refl
+returns_2 : tie.Need-returns-else-i-n
+returns_2 c = off (omega (arith, c.before.wide-i.ensures, c.if-i-n.false)) refl refl
 
 pub link_spec : {M : Type 1} → statement M
 link_spec =

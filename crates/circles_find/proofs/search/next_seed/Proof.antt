@@ -9,18 +9,18 @@ use borrow.Author.Rules.{rules}
 use Rattle.circles_find.proofs.search.next_seed.Statement.{statement}
 use Rattle.circles_find.proofs.search.next_seed.Tie as tie
 
-returns_2 : tie.Need-returns-2
+returns_2 : tie.Need-returns-then-count-k
 returns_2 c =
-    let u = c.before.unlabelled.ensures in
-    record { falls = omega arith; within = omega arith; skip = λ k h l f. absurd (u.skip k h (omega (arith, c.if2.true)) f) }
+    let u = c.before.unlabelled-k.ensures in
+    record { falls = omega arith; within = omega arith; skip = λ k h l f. absurd (u.skip k h (omega (arith, c.if-count-k.true)) f) }
 
-returns_3 : tie.Need-returns-3
+returns_3 : tie.Need-returns
 returns_3 c =
-    let v = c.before.before.unlabelled in
+    let v = c.before.before.unlabelled-k in
     let u = v.ensures in
     record {
-      falls = omega (arith, u.from, c.before.if2.false);
-      within = omega (arith, c.before.if2.false);
+      falls = omega (arith, u.from, c.before.if-count-k.false);
+      within = omega (arith, c.before.if-count-k.false);
       skip = λ k h l f. dite (ℕ_discrete v.result k) (λ e. ap (λ (x : ℕ). get_or c.before.before.before.before.before.before.before.args.slots.now x 0) e) (λ e. absurd (u.skip k h (omega (arith, e, l)) f));
     }
 

@@ -9,80 +9,80 @@ use native.Mathlib.Omega.{arith}
 use Rattle.circles_find.proofs.search.sweep.Statement.{statement}
 use Rattle.circles_find.proofs.search.sweep.Tie as tie
 
-abbrev invariant_loop : tie.invariant_loop
+abbrev invariant_loop : tie.invariant-loop-e
 invariant_loop n a b first next v x okay k mark₀ queue₀ tail t₀ e₀ mark queue t e = Looks n (Back (Arg n a b) v) x okay k mark₀ queue₀ tail mark queue t × Upto (arg_of a b) (2 * n) v (Seen x okay k mark) e × Room n x mark queue t × (length mark ≡ length mark₀) × (length queue ≡ length queue₀)
 
-abbrev decreases_loop : tie.decreases_loop
+abbrev decreases_loop : tie.decreases-loop-e
 decreases_loop n a b first next v x okay k mark₀ queue₀ tail t₀ e₀ mark queue t e = 2 * n - e
 
-abbrev start : tie.At-loop invariant_loop decreases_loop → tie.Start invariant_loop decreases_loop
+abbrev start : tie.At-loop-e invariant_loop decreases_loop → tie.Start invariant_loop decreases_loop
 start c = c.before.before.before.before.before.before.before.before
 
-loop_holds : tie.Need-loop-init invariant_loop decreases_loop
+loop_holds : tie.Need-loop-e-init invariant_loop decreases_loop
 loop_holds c =
     let s = c.before.before.before.before.before.before.before in (
       begin,
-      upto_start (Seen s.args.x s.args.okay.now s.args.k s.args.mark.now) (subst (λ (u : ℕ). Next (arg_of s.args.a.now s.args.b.now) (2 * s.args.n) s.args.v 0 u) (sym c.wide.ensures) (s.requires.2.start s.args.v s.requires.1)),
+      upto_start (Seen s.args.x s.args.okay.now s.args.k s.args.mark.now) (subst (λ (u : ℕ). Next (arg_of s.args.a.now s.args.b.now) (2 * s.args.n) s.args.v 0 u) (sym c.wide-e.ensures) (s.requires.2.start s.args.v s.requires.1)),
       s.requires.4,
       refl,
       refl,
     )
 
-look_requires : tie.Need-look-requires invariant_loop decreases_loop
+look_requires : tie.Need-look-t-requires invariant_loop decreases_loop
 look_requires c κs =
     let l = c.before.before.before in
-    (omega (arith, c.before.before.loop-test.true), (start l).requires.0, (start l).requires.3, l.loop.invariant.2)
+    (omega (arith, c.before.before.loop-e-test.true), (start l).requires.0, (start l).requires.3, l.loop-e.invariant.2)
 
-abbrev at : tie.After-look invariant_loop decreases_loop → tie.At-loop invariant_loop decreases_loop
+abbrev at : tie.After-look-t invariant_loop decreases_loop → tie.At-loop-e invariant_loop decreases_loop
 at c = c.before.before.before.before
 
 -- the look's effect
-kept : (c : tie.After-look invariant_loop decreases_loop) → (
+kept : (c : tie.After-look-t invariant_loop decreases_loop) → (
     let l = at c in
     let s = (start l).args in
-    Kept s.n (l.loop.e / 2) s.x s.okay.now s.k l.loop.mark c.look.new.1.1.1.1.1.0 c.look.new.1.1.1.1.1.1.0 c.look.result
+    Kept s.n (l.loop-e.e / 2) s.x s.okay.now s.k l.loop-e.mark c.look-t.new.mark c.look-t.new.queue c.look-t.result
     )
-kept c = visited_kept (at c).loop.invariant.2 c.look.ensures
+kept c = visited_kept (at c).loop-e.invariant.2 c.look-t.ensures
 
-abbrev looked : tie.After-wide2 invariant_loop decreases_loop → tie.After-look invariant_loop decreases_loop
+abbrev looked : tie.After-wide-e-in-loop-e invariant_loop decreases_loop → tie.After-look-t invariant_loop decreases_loop
 looked c = c.before.before.before.before.before.before
 
 -- the next of the chain
-next_look : (c : tie.After-wide2 invariant_loop decreases_loop) → (
+next_look : (c : tie.After-wide-e-in-loop-e invariant_loop decreases_loop) → (
     let l = at (looked c) in
     let s = (start l).args in
-    Next (arg_of s.a.now s.b.now) (2 * s.n) s.v (l.loop.e + 1) c.wide2.result
+    Next (arg_of s.a.now s.b.now) (2 * s.n) s.v (l.loop-e.e + 1) c.wide-e-in-loop-e.result
     )
 next_look c =
     let l = at (looked c) in
     let s = start l in
-    let el = (looked c).before.before.before.loop-test.true in
-    let hit : arg_of s.args.a.now s.args.b.now l.loop.e ≡ s.args.v = l.loop.inv.1.hit el in
-    subst₂ (λ y z. Next (arg_of s.args.a.now s.args.b.now) (2 * s.args.n) y (l.loop.e + 1) z) hit (sym c.wide2.ensures) (s.pre.2.step l.loop.e el (omega (arith, hit, s.pre.1)))
+    let el = (looked c).before.before.before.loop-e-test.true in
+    let hit : arg_of s.args.a.now s.args.b.now l.loop-e.e ≡ s.args.v = l.loop-e.invariant.1.hit el in
+    subst₂ (λ y z. Next (arg_of s.args.a.now s.args.b.now) (2 * s.args.n) y (l.loop-e.e + 1) z) hit (sym c.wide-e-in-loop-e.ensures) (s.requires.2.step l.loop-e.e el (omega (arith, hit, s.requires.1)))
 
-loop_less : tie.Need-loop-smaller invariant_loop decreases_loop
-loop_less c = omega (arith, (next_look c).from, (looked c).before.before.before.loop-test.true)
+loop_less : tie.Need-loop-e-smaller invariant_loop decreases_loop
+loop_less c = omega (arith, (next_look c).from, (looked c).before.before.before.loop-e-test.true)
 
-loop_again : tie.Need-loop-preserved invariant_loop decreases_loop
+loop_again : tie.Need-loop-e-preserved invariant_loop decreases_loop
 loop_again c =
     let k = looked c in
     let l = at k in
     let s = start l in
-    let el = k.before.before.before.loop-test.taken in (
-      look (l.loop.e / 2) (arg_of_lem s.args.n s.args.a.now s.args.b.now l.loop.e s.args.v s.pre.0 el s.pre.1 (l.loop.inv.1.hit el)) l.loop.inv.0 k.look.ensures,
-      seen_more c.wide2.result el l.loop.inv.1 (kept k) (next_look c),
+    let el = k.before.before.before.loop-e-test.taken in (
+      look (l.loop-e.e / 2) (arg_of_lem s.args.n s.args.a.now s.args.b.now l.loop-e.e s.args.v s.requires.0 el s.requires.1 (l.loop-e.invariant.1.hit el)) l.loop-e.invariant.0 k.look-t.ensures,
+      seen_more c.wide-e-in-loop-e.result el l.loop-e.invariant.1 (kept k) (next_look c),
       (kept k).room,
-      k.look.kept.1.1.1.1.1.0 ∙ l.loop.inv.3,
-      k.look.kept.1.1.1.1.1.1.0 ∙ l.loop.inv.4,
+      k.look-t.kept.mark ∙ l.loop-e.invariant.3,
+      k.look-t.kept.queue ∙ l.loop-e.invariant.4,
     )
 
 returns : tie.Need-returns invariant_loop decreases_loop
 returns c =
-    let l = c.before.loop in
+    let l = c.before.loop-e in
     let s = (start c.before).args in
     record {
       looks = l.invariant.0;
-      all = at_readers (λ y. get_or s.okay.now y 0 ≡ s.k → get_or l.mark y 0 ≡ s.x) s.n s.a.now s.b.now s.v (λ e h₁ h₂ h₃. l.invariant.1.past e (omega (arith, c.loop-test.false, h₁)) h₁ h₂ h₃);
+      all = at_readers (λ y. get_or s.okay.now y 0 ≡ s.k → get_or l.mark y 0 ≡ s.x) s.n s.a.now s.b.now s.v (λ e h₁ h₂ h₃. l.invariant.1.past e (omega (arith, c.loop-e-test.false, h₁)) h₁ h₂ h₃);
       room = l.invariant.2;
     }
 
@@ -97,13 +97,13 @@ sweep_spec =
     (λ c κs. tt)
     loop_holds
     (λ c. omega (arith, (start c).requires.0))
-    (λ c. omega (arith, (start c.before).pre.0, c.loop-test.true))
+    (λ c. omega (arith, (start c.before).requires.0, c.loop-e-test.true))
     look_requires
-    (λ c. let l = c.before.before.before.before.before.before.before.before in omega (arith, (start l).requires.0, c.before.before.before.before.before.before.before.loop-test.true))
-    (λ c. let l = c.before.before.before.before.before.before.before.before.before in omega (arith, (start l).requires.2.nexts, c.before.before.before.before.before.before.before.before.loop-test.true))
+    (λ c. let l = c.before.before.before.before.before.before.before.before in omega (arith, (start l).requires.0, c.before.before.before.before.before.before.before.loop-e-test.true))
+    (λ c. let l = c.before.before.before.before.before.before.before.before.before in omega (arith, (start l).requires.2.nexts, c.before.before.before.before.before.before.before.before.loop-e-test.true))
     (λ c κs. tt)
     loop_less
     loop_again
-    (λ c. c.before.loop.invariant.3)
-    (λ c. c.before.loop.invariant.4)
+    (λ c. c.before.loop-e.invariant.3)
+    (λ c. c.before.loop-e.invariant.4)
     returns)

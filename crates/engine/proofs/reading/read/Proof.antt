@@ -20,18 +20,18 @@ use Rattle.engine.proofs.reading.read.Tie as tie
 abbrev memory : tie.Start → Memory
 memory s = lent s.args.held.now s.args.held_owns.now s.args.sets.now s.args.earlier.now
 
-abbrev start : tie.After-enum-told → tie.Start
+abbrev start : tie.In-Sound → tie.Start
 start c = c.before.before.before.before.before.before.before
 
-sound : (c : tie.After-enum-told) → Looked (start c).args.table.now (memory (start c)) (start c).args.«record»
-sound c = looked (start c).args.table.now (memory (start c)) (start c).args.«record» (sound_zero c.enum_told.given.1 c.before.before.judge-look.ensures)
+sound : (c : tie.In-Sound) → Looked (start c).args.table.now (memory (start c)) (start c).args.«record»
+sound c = looked (start c).args.table.now (memory (start c)) (start c).args.«record» (sound_zero c.enum_told.given.1 c.before.before.judge_look.ensures)
 
-inside : (c : tie.Then1) → (start c.before.before).args.instance < length (start c.before.before).args.sets.now
+inside : (c : tie.Then-is_declared) → (start c.before.before).args.instance < length (start c.before.before).args.sets.now
 inside c =
     let s = start c.before.before in
     let k = (sound c.before.before).ground in
     let ns = take s.args.«record».nodes s.args.held.now in
-    let b = declared_below s.args.table.now ns s.args.instance (sym c.before.is_declared.ensures ∙ c.if1.true) in
+    let b = declared_below s.args.table.now ns s.args.instance (sym c.before.is_declared.ensures ∙ c.if-is_declared.true) in
     omega (arith, length-take-le s.args.«record».nodes s.args.held.now (omega (arith, k.room.productions, k.within.nodes)), k.room.sets, k.within.nodes)
 
 pub read_spec : {M : Type 1} → statement M
@@ -50,14 +50,14 @@ read_spec =
     (λ c. inside c.before)
     (λ c.
     let s = c.before.before.before.before.before.before.before.before.before.before in
-    let d = sym c.before.before.is_declared.ensures ∙ c.before.if1.true in
+    let d = sym c.before.before.is_declared.ensures ∙ c.before.if-is_declared.true in
     read_said s.args.table.now (memory s) s.args.«record» s.args.instance _ (read_past s.args.table.now (memory s) s.args.«record» s.args.instance (sound c.before.before.before) ∙ rw d) refl)
     (λ c. search rules)
     (λ c.
     let s = c.before.before.before.before.before.before.before.before.before in
-    let d = sym c.before.is_declared.ensures ∙ c.if1.false in
+    let d = sym c.before.is_declared.ensures ∙ c.if-is_declared.false in
     read_refused s.args.table.now (memory s) s.args.«record» s.args.instance Undeclared (sym (read_past s.args.table.now (memory s) s.args.«record» s.args.instance (sound c.before.before) ∙ rw d)))
     (λ c.
     let s = c.before.before.before.before.before.before.before.before in
     read_refused s.args.table.now (memory s) s.args.«record» s.args.instance c.before.r.given.0.0
-    (read_stopped s.args.table.now (memory s) s.args.«record» s.args.instance c.before.r.given.0.0 (refused_number c.before.r.given.1 c.before.before.before.judge-look.ensures))))
+    (read_stopped s.args.table.now (memory s) s.args.«record» s.args.instance c.before.r.given.0.0 (refused_number c.before.r.given.1 c.before.before.before.judge_look.ensures))))

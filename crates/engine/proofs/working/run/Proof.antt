@@ -103,7 +103,7 @@ module _ {M : Type 1} {𝓤 : Ura M} (𝓛 : Logic 𝓤) (at_mem : Memory → SP
   vals = (vptr b o ∷ [], (vptr table.ptr.0 table.ptr.1 ∷ [], (sl held ∷ [], (sl owned-sets ∷ [], (sl sets ∷ [], (sl earlier ∷ [], (vint w64 n ∷ [], tt)))))))
 
   abbrev Post : Val → SProp 𝓤
-  Post = (walk_of 𝓛 run.ended stayed (run.clauses 𝓛 at_mem go)).post (((κ, (κ₁, (κ₂, tt))), (q, (q₁, (q₂, tt))), bounds, a, vals), tt)
+  Post = (walk_of 𝓛 run.ended stayed (run.clauses 𝓛 at_mem go)).ensures (((κ, (κ₁, (κ₂, tt))), (q, (q₁, (q₂, tt))), bounds, a, vals), tt)
 
   -- what the callee is passed, and what its triple binds outside
   abbrev to : (Work 𝓛 at_mem go).Ghost
@@ -126,10 +126,10 @@ module _ {M : Type 1} {𝓤 : Ura M} (𝓛 : Logic 𝓤) (at_mem : Memory → SP
   abbrev Rest : Fml
   Rest = owns (ShrRef (named 1) κ₁ words ∷ ShrSlice (named 1) κ₁ u8 ∷ ShrSlice (named 1) κ₁ u64 ∷ MutSlice (named 2) κ₂ u64 ∷ ShrSlice (named 1) κ₁ u64 ∷ u64 ∷ []) a.1 vals.1
 
-  asked : ent 𝓤 (on_entry 𝓛 work.signature (κ₁, (κ₂, tt)) (q₁, (q₂, tt)) (table, (h, (held, (owned-sets, (sets, (earlier, (n, tt))))))) (vptr table.ptr.0 table.ptr.1 ∷ [], (mach h ∷ [], vals.1.1))) ((Work 𝓛 at_mem go).pre to)
+  asked : ent 𝓤 (on_entry 𝓛 work.signature (κ₁, (κ₂, tt)) (q₁, (q₂, tt)) (table, (h, (held, (owned-sets, (sets, (earlier, (n, tt))))))) (vptr table.ptr.0 table.ptr.1 ∷ [], (mach h ∷ [], vals.1.1))) ((Work 𝓛 at_mem go).requires to)
   asked = qed 𝓛 ((‵ (flft κ₁ q₁) ⊛ ‵ (flft κ₂ q₂) ⊛ ‵ ftrue) ∷ ‵ (owns (ShrRef (named 0) κ₁ words ∷ T.the_row ∷ ShrSlice (named 0) κ₁ u8 ∷ ShrSlice (named 0) κ₁ u64 ∷ MutSlice (named 1) κ₂ u64 ∷ ShrSlice (named 0) κ₁ u64 ∷ u64 ∷ []) (table, (h, (held, (owned-sets, (sets, (earlier, (n, tt))))))) (vptr table.ptr.0 table.ptr.1 ∷ [], (mach h ∷ [], vals.1.1))) ∷ []) ∵ join ! $ frame ! $ done !
 
-  goes : Is T.the_row h (mach h ∷ []) → ent 𝓤 (⋆ 𝓛 ((‵ (flft κ₁ q₁) ⊛ ‵ (flft κ₂ q₂) ⊛ ‵ ftrue) ∷ ‵ Rest ∷ [])) (sep 𝓤 ((Work 𝓛 at_mem go).pre to) (sep 𝓤 (sem 𝓛 B) (sep 𝓤 (sem 𝓛 N) (sep 𝓤 (sem 𝓛 O) (sem 𝓛 P)))))
+  goes : Is T.the_row h (mach h ∷ []) → ent 𝓤 (⋆ 𝓛 ((‵ (flft κ₁ q₁) ⊛ ‵ (flft κ₂ q₂) ⊛ ‵ ftrue) ∷ ‵ Rest ∷ [])) (sep 𝓤 ((Work 𝓛 at_mem go).requires to) (sep 𝓤 (sem 𝓛 B) (sep 𝓤 (sem 𝓛 N) (sep 𝓤 (sem 𝓛 O) (sem 𝓛 P)))))
   goes g =
       qed 𝓛 ((‵ (flft κ₁ q₁) ⊛ ‵ (flft κ₂ q₂) ⊛ ‵ ftrue) ∷ ‵ Rest ∷ []) ∵ move ! (1 ∷ []) $ fsplit ! $
       use1 𝓛 (‵ B ⊛ ‵ B) ((shr_copy 𝓛 (named 1) κ₁ words).twice table _) $ split ! $ move ! (2 ∷ []) $ fsplit ! $
@@ -139,7 +139,7 @@ module _ {M : Type 1} {𝓤 : Ura M} (𝓛 : Logic 𝓤) (at_mem : Memory → SP
       move ! (0 ∷ 2 ∷ []) $ fjoin ! $ move ! (2 ∷ 0 ∷ []) $ fjoin ! $ move ! (2 ∷ 0 ∷ []) $ fjoin ! $ move ! (3 ∷ 0 ∷ []) $ fjoin ! $
       owned ! T.the_row (Is T.the_row) (LL.makes T.the_type T'.the_plain 𝓛) h _ g $ fjoin ! $ move ! (4 ∷ 0 ∷ []) $ fjoin ! $
       -- [what the callee is passed; what is only read; the tokens]
-      move ! (5 ∷ 0 ∷ []) $ use2 𝓛 (raw ((Work 𝓛 at_mem go).pre to)) asked $ frame ! $ move ! (3 ∷ []) $ frame ! $ move ! (2 ∷ []) $ frame ! $ move ! (1 ∷ []) $ frame ! $ done !
+      move ! (5 ∷ 0 ∷ []) $ use2 𝓛 (raw ((Work 𝓛 at_mem go).requires to)) asked $ frame ! $ move ! (3 ∷ []) $ frame ! $ move ! (2 ∷ []) $ frame ! $ move ! (1 ∷ []) $ frame ! $ done !
 
   -- what the callee says of its result d and the last sets
   abbrev Says : Ran → List ℕ → Type 0
@@ -173,7 +173,7 @@ module _ {M : Type 1} {𝓤 : Ura M} (𝓛 : Logic 𝓤) (at_mem : Memory → SP
         assigns ! (addr ! (from ! (fld ! refl (hop ! (look_in ! 19 (sub ! 0 refl (whole !))) (stop !))))) (from ! (stop !)) (init ! 9 refl (tt, tt)) $
         assigns ! (agg ! (and_then ! (load ! (from ! (stop !)) (look ! 9 refl)) (and_then ! (load ! (from ! (fld ! refl (stop !))) (look_in ! 19 (sub ! 1 refl (whole !)))) (no_more !)))) (from ! (stop !)) (init ! 7 refl (tt, (tt, (record { fits = is-sets.0.1.0 }, tt)))) $
         -- the call: what is lent and the tokens go to the callee
-        move ! (5 ∷ 6 ∷ []) $ use2 𝓛 (raw ((Work 𝓛 at_mem go).pre to) ⊛ (‵ B ⊛ ‵ N ⊛ ‵ O ⊛ ‵ P)) (goes g) $ split ! $
+        move ! (5 ∷ 6 ∷ []) $ use2 𝓛 (raw ((Work 𝓛 at_mem go).requires to) ⊛ (‵ B ⊛ ‵ N ⊛ ‵ O ⊛ ‵ P)) (goes g) $ split ! $
         calls_at ! fm (Work 𝓛 at_mem go) known to (and_then ! (load ! (from ! (stop !)) (look ! 25 refl)) (and_then ! (load ! (from ! (stop !)) (look ! 13 refl)) (and_then ! (load ! (from ! (stop !)) (look ! 23 refl)) (and_then ! (load ! (from ! (stop !)) (look ! 21 refl)) (and_then ! (load ! (from ! (stop !)) (look ! 7 refl)) (and_then ! (load ! (from ! (stop !)) (look ! 17 refl)) (and_then ! (load ! (from ! (stop !)) (look ! 15 refl)) (no_more !)))))))) (λ w.
         use1 𝓛 (later (some (λ (d : Ran). ((‵ (flft κ₁ q₁) ⊛ ‵ (flft κ₂ q₂) ⊛ ‵ ftrue) ⊛ ‵ ((D.the_row).own_val d (w ∷ []))) ⊛ raw (ensured 𝓛 work.ended (work.clauses 𝓛 at_mem go) (κ₁, (κ₂, tt)) (table, (h, (held, (owned-sets, (sets, (earlier, (n, tt))))))) tt d)))) (id⊢ 𝓤 _) $ await ! tt $ pick ! (λ d.
         -- what it ensures, at some last sets

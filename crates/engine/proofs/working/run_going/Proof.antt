@@ -57,8 +57,8 @@ run_going_spec =
     (λ c. search rules)
     (λ c κs. (sound c.before.before.before.before.before.before.before.before.before.before.before.before, record { firsts = refl; seconds = refl; lefts = omega arith; rules = omega arith; labels = omega arith; listed = omega arith; ended = omega arith }))
     (λ c. sym (owns_long c.before.before.before.before.before.before.before.before.before.before.before.before.before.before.before.before.before.before.before))
-    (λ c. let s = c.before.before.before.before.before.before.before.before.before.before.before.before.before.before.before.before.before.before.before.before in sym (prepared_long s.args.table.now (tree s) _ _ _ _ _ _ _ _ _ _ _ _ _ _ _ (sound s).few refl refl c.before.before.before.before.before.before.before.prepare.ensures).0)
-    (λ c. let s = c.before.before.before.before.before.before.before.before.before.before.before.before.before.before.before.before.before.before.before.before.before in sym (prepared_long s.args.table.now (tree s) _ _ _ _ _ _ _ _ _ _ _ _ _ _ _ (sound s).few refl refl c.before.before.before.before.before.before.before.before.prepare.ensures).1)
+    (λ c. let s = c.before.before.before.before.before.before.before.before.before.before.before.before.before.before.before.before.before.before.before.before in sym (prepared_long s.args.table.now (tree s) _ _ _ _ _ _ _ _ _ _ _ _ _ _ _ (sound s).few refl refl c.before.before.before.before.before.before.before.prepare-count.ensures).0)
+    (λ c. let s = c.before.before.before.before.before.before.before.before.before.before.before.before.before.before.before.before.before.before.before.before.before in sym (prepared_long s.args.table.now (tree s) _ _ _ _ _ _ _ _ _ _ _ _ _ _ _ (sound s).few refl refl c.before.before.before.before.before.before.before.before.prepare-count.ensures).1)
     (λ c. search rules)
     (λ c. search rules)
     (λ c. search rules)
@@ -68,11 +68,11 @@ run_going_spec =
     (λ c. search rules)
     (λ c κs.
     let s = c.before.before.before.before.before.before.before.before.before.before.before.before.before.before.before.before.before.before.before.before.before.before.before.before.before.before.before.before in
-    let h = prepared_holds s.args.table.now (tree s) (owns s) _ _ _ _ _ _ _ _ _ _ _ _ _ _ _ (8 * nodes s) (sound s) (owned s) (slots s) c.before.before.before.before.before.before.before.before.before.before.before.before.before.before.before.prepare.ensures in
+    let h = prepared_holds s.args.table.now (tree s) (owns s) _ _ _ _ _ _ _ _ _ _ _ _ _ _ _ (8 * nodes s) (sound s) (owned s) (slots s) c.before.before.before.before.before.before.before.before.before.before.before.before.before.before.before.prepare-count.ensures in
     let g = s.requires.ground in
     (g.within, (h.wiring, (h.circles, record { limit = omega (arith, g.within.nodes); olds = omega (arith, g.within.nodes, g.room.earlier); sets_room = omega (arith, g.within.nodes, g.room.sets); values_room = omega (arith, g.within.nodes) }))))
     (λ c. search rules)
     (λ c.
     let s = c.before.before.before.before.before.before.before.before.before.before.before.before.before.before.before.before.before.before.before.before.before.before.before.before.before.before.before.before.before.before.before.before in
-    let h = prepared_holds s.args.table.now (tree s) (owns s) _ _ _ _ _ _ _ _ _ _ _ _ _ _ _ (8 * nodes s) (sound s) (owned s) (slots s) c.before.before.before.before.before.before.before.before.before.before.before.before.before.before.before.before.before.before.before.prepare.ensures in
+    let h = prepared_holds s.args.table.now (tree s) (owns s) _ _ _ _ _ _ _ _ _ _ _ _ _ _ _ (8 * nodes s) (sound s) (owned s) (slots s) c.before.before.before.before.before.before.before.before.before.before.before.before.before.before.before.before.before.before.before.prepare-count.ensures in
     record { left = run_carried s.args.table.now (memory s) s.args.«record» s.requires (8 * nodes s) _ _ _ _ _ _ _ _ h s.args.budget _ _ _ c.before.before.before.run_in.ensures }))

@@ -9,7 +9,7 @@ use Rattle.session_feed.proofs.feeding.hear_line.Statement.{statement}
 use Rattle.session_feed.proofs.feeding.hear_line.Tie as tie
 use Rattle.update.specs.Memories.{lent}
 
-slice_aggregate_frame_at : tie.Need-slice-aggregate-frame-at
+slice_aggregate_frame_at : tie.Need-slice_bounds-frame_at-end
 slice_aggregate_frame_at c = sym (length-take-le c.before.before.before.before.before.before.before.before.before.before.args.begun c.before.before.before.before.before.before.before.before.before.before.args.window.now c.before.before.before.before.before.before.before.before.before.before.requires.1.1)
 
 returns : tie.Need-returns

@@ -10,4 +10,4 @@ awaited_of_spec =
     (tie.spec
     (λ c. search rules)
     (λ c. search rules)
-    (λ c. not_ended c.before.args.expected c.match.keys2))
+    (λ c. not_ended c.before.args.expected c.in-Ended.keys2))

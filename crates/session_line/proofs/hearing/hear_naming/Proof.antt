@@ -11,13 +11,13 @@ use Rattle.session_line.proofs.hearing.hear_naming.Tie as tie
 abbrev memory : tie.Start → Memory
 memory s = lent s.args.held.now s.args.held_owns.now s.args.sets.now s.args.earlier.now
 
-returns : tie.Need-returns
+returns : tie.Need-returns-then-count-eq0
 returns c =
     let s = c.before.before.before.before.before.before.before.before.before.before.before.before.before.before.before.before.before.before.before.before.before.before.before.before in
     let a = s.args in
-    as_well (no_points a.table.now a.parts.now a.part_owns_lem.now (memory s) a.«record» a.count a.line (omega (arith, c.before.before.before.before.before.before.before.before.before.before.before.before.before.before.before.before.if1.true))) c.before.before.before.before.before.before.before.before.before.before.open-update.ensures
+    as_well (no_points a.table.now a.parts.now a.part_owns_lem.now (memory s) a.«record» a.count a.line (omega (arith, c.before.before.before.before.before.before.before.before.before.before.before.before.before.before.before.before.if-count-eq0.true))) c.before.before.before.before.before.before.before.before.before.before.open_update.ensures
 
-returns_2 : tie.Need-returns-2
+returns_2 : tie.Need-returns
 returns_2 c =
     let s = c.before.before.before.before.before.before.before.before in
     let a = s.args in

@@ -6,13 +6,13 @@ use borrow.Author.Rules.{rules}
 use Rattle.session_line.proofs.hearing.keep_node.Statement.{statement}
 use Rattle.session_line.proofs.hearing.keep_node.Tie as tie
 
-returns : tie.Need-returns
+returns : tie.Need-returns-then-taken-lt-PARTS
 returns c =
     let a = c.before.args in
     let h : a.taken < 513 = omega arith in
     (kept_in a.taken a.production a.parts.now h, kept_in a.taken a.own a.part_owns_lem.now h)
 
-returns_2 : tie.Need-returns-2
+returns_2 : tie.Need-returns-else-taken-lt-PARTS
 returns_2 c =
     let a = c.before.args in
     let h : 513 ≤ a.taken = omega arith in

@@ -7,7 +7,7 @@ use Rattle.session_line.proofs.hearing.stop.Statement.{statement}
 use Rattle.session_line.proofs.hearing.stop.Tie as tie
 
 returns : tie.Need-returns
-returns c = λ t ps os m. let a = c.before.before.before.before.before.args in let e = c.before.before.put-refusal.ensures in refusing t ps os m a.«record» Stopped (number_of a.refusal) a.line a.printed _ a.out.now _ e.0 e.1
+returns c = λ t ps os m. let a = c.before.before.before.before.before.args in let e = c.before.before.put_refusal.ensures in refusing t ps os m a.«record» Stopped (number_of a.refusal) a.line a.printed _ a.out.now _ e.0 e.1
 
 pub stop_spec : {M : Type 1} → statement M
 stop_spec =

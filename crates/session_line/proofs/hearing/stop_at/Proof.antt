@@ -5,8 +5,8 @@ use borrow.Author.Rules.{rules}
 use Rattle.session_line.proofs.hearing.stop_at.Statement.{statement}
 use Rattle.session_line.proofs.hearing.stop_at.Tie as tie
 
-returns : tie.Need-returns
-returns c = λ t ps os m. let a = c.before.before.before.before.before.before.args in as_well (not_refused t ps os m a.«record» a.frame a.line c.before.before.before.before.match.keys2) (c.before.before.stop.ensures t ps os m)
+returns : tie.Need-returns-in_default
+returns c = λ t ps os m. let a = c.before.before.before.before.before.before.args in as_well (not_refused t ps os m a.«record» a.frame a.line c.before.before.before.before.in-Refused.keys2) (c.before.before.stop.ensures t ps os m)
 
 pub stop_at_spec : {M : Type 1} → statement M
 stop_at_spec =
@@ -18,4 +18,4 @@ stop_at_spec =
     returns
     (λ c κs. search rules)
     (λ c. search rules)
-    (λ c. λ t ps os m. rw c.before.before.before.before.before.frame.given.1 (c.before.before.stop2.ensures t ps os m)))
+    (λ c. λ t ps os m. rw c.before.before.before.before.before.frame.given.1 (c.before.before.stop-2.ensures t ps os m)))

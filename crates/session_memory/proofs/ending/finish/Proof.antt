@@ -11,7 +11,7 @@ use Rattle.session_memory.proofs.ending.finish.Statement.{statement}
 use Rattle.session_memory.proofs.ending.finish.Tie as tie
 
 -- a line has begun
-in_line : tie.Need-returns-3
+in_line : tie.Need-returns-then-state-gt0
 in_line c =
     let p = c.before.before.put_last in
     let e = c.before.before.before.before.before.before in
@@ -19,41 +19,41 @@ in_line c =
     let a = w.before.before.before.args in
     let s = a.state in
     let b : eqb s.begun 0 ≡ false = ne_eqb s.begun 0 (λ z. omega arith) in
-    let f = sym w.before.is-working.ensures ∙ w.if1.false in
-    let t = begun_text s.awaited s.begun s.line f (λ z. true≢false (sym (e.before.is-stopped.ensures.no z) ∙ e.if2.false)) b in
+    let f = sym w.before.is_working.ensures ∙ w.if-is_working.false in
+    let t = begun_text s.awaited s.begun s.line f (λ z. true≢false (sym (e.before.is_stopped.ensures.no z) ∙ e.if-is_stopped.false)) b in
     ends s a.out.now f (refusal_text 13 s.line) t p.result p.new.0 p.ensures.0 p.ensures.1
 
 -- none has, inside the table or a command
-in_part : tie.Need-returns-4
+in_part : tie.Need-returns-then-is_inside
 in_part c =
-    let p = c.before.before.put-last2 in
+    let p = c.before.before.put_last-then-is_inside in
     let i = c.before.before.before.before in
     let e = i.before.before.before.before.before.before in
     let a = e.before.before.before.args in
     let s = a.state in
     let b : eqb s.begun 0 ≡ true = eq-eqb s.begun 0 (omega arith) in
-    let f = sym e.before.is-working.ensures ∙ e.if1.false in
-    let t = inside_text s.awaited s.begun s.line (sym i.before.is-inside.ensures ∙ i.if4.true) b in
+    let f = sym e.before.is_working.ensures ∙ e.if-is_working.false in
+    let t = inside_text s.awaited s.begun s.line (sym i.before.is_inside.ensures ∙ i.if-is_inside.true) b in
     ends s a.out.now f (refusal_text 14 s.line) t p.result p.new.0 p.ensures.0 p.ensures.1
 
 -- none has, and no more is waited for
-between : tie.Need-returns-5
+between : tie.Need-returns
 between c =
     let e = c.before.before.before.before.before.before in
     let a = e.before.before.before.args in
     let s = a.state in
     let b : eqb s.begun 0 ≡ true = eq-eqb s.begun 0 (omega arith) in
-    ends_silent s a.out.now (sym e.before.is-working.ensures ∙ e.if1.false) (outside_text s.awaited s.begun s.line (sym c.before.is-inside.ensures ∙ c.if4.false) b)
+    ends_silent s a.out.now (sym e.before.is_working.ensures ∙ e.if-is_working.false) (outside_text s.awaited s.begun s.line (sym c.before.is_inside.ensures ∙ c.if-is_inside.false) b)
 
 pub finish_spec : {M : Type 1} → statement M
 finish_spec =
     tie.close
     (tie.spec
     (λ c κs. search rules)
-    (λ c. let a = c.before.before.before.args in busy a.state a.out.now (sym c.before.is-working.ensures ∙ c.if1.true))
+    (λ c. let a = c.before.before.before.args in busy a.state a.out.now (sym c.before.is_working.ensures ∙ c.if-is_working.true))
     (λ c κs. search rules)
     (λ c. let w = c.before.before.before in let a = w.before.before.args in let s = a.state in
-    ends_silent s a.out.now (sym w.is-working.ensures ∙ c.before.before.if1.false) (stopped_text s.awaited s.begun s.line (c.before.is-stopped.ensures.yes c.if2.true)))
+    ends_silent s a.out.now (sym w.is_working.ensures ∙ c.before.before.if-is_working.false) (stopped_text s.awaited s.begun s.line (c.before.is_stopped.ensures.yes c.if-is_stopped.true)))
     (λ c κs. search rules)
     (λ c. search rules)
     in_line

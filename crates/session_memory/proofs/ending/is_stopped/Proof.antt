@@ -15,4 +15,4 @@ other : (awaited : Awaited) → OneOf (0 ∷ 1 ∷ 2 ∷ 3 ∷ 4 ∷ []) (tag_of
 other awaited k e = miss (0 ∷ 1 ∷ 2 ∷ 3 ∷ 4 ∷ []) 5 tt (rw e at k)
 
 pub is_stopped_spec : {M : Type 1} → statement M
-is_stopped_spec = tie.close (tie.spec (λ c. search rules) (λ c. search rules) (λ c. tests_no (other c.before.args.awaited c.match.keys2)))
+is_stopped_spec = tie.close (tie.spec (λ c. search rules) (λ c. search rules) (λ c. tests_no (other c.before.args.awaited c.in-Stopped.keys2)))

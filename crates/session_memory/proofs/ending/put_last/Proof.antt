@@ -13,5 +13,5 @@ put_last_spec =
     (λ c. let a = c.before.before.args in put_short a.out.now (number_of a.refusal) a.line (omega arith))
     (λ c κs. search rules)
     (λ c. search rules)
-    (λ c. let a = c.before.before.before.before.before.before.args in let p = c.before.before.put-refusal in
+    (λ c. let a = c.before.before.before.before.before.before.args in let p = c.before.before.put_refusal in
     put_whole a.out.now (number_of a.refusal) a.line (omega arith) p.result (omega (arith, p.ensures.0)) p.new.0 p.ensures.1))

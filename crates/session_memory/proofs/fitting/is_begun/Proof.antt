@@ -21,48 +21,48 @@ module _ (window : List ℕ) (begun : ℕ) where
       let n : length (take begun window) ≡ begun = length-take-le begun window r in
       (l, record { few = omega arith; no_end = λ i h e. f i (omega arith) (sym (get_or-take begun window i 0 (omega arith)) ∙ e) })
 
-abbrev invariant_loop : tie.invariant_loop
+abbrev invariant_loop : tie.invariant-loop-i
 invariant_loop window begun i₀ i = (i ≤ begun) × ((k : ℕ) → k < i → get_or window k 0 ≡ 10 → ⊥)
 
-abbrev decreases_loop : tie.decreases_loop
+abbrev decreases_loop : tie.decreases-loop-i
 decreases_loop window begun i₀ i = begun - i
 
 -- src/fitting.rt:75:9
-returns : tie.Need-returns invariant_loop decreases_loop
+returns : tie.Need-returns-then-begun-gt-LONGEST invariant_loop decreases_loop
 returns c = tests_no (λ w. let h = w.0 in omega arith)
 
 -- src/fitting.rt:78:5
-loop_holds : tie.Need-loop-init invariant_loop decreases_loop
+loop_holds : tie.Need-loop-i-init invariant_loop decreases_loop
 loop_holds c = search rules
 
 -- src/fitting.rt:79:12
-shared_slice_read_if2 : tie.Need-shared-slice-read-if2 invariant_loop decreases_loop
+shared_slice_read_if2 : tie.Need-bounds-window-i invariant_loop decreases_loop
 shared_slice_read_if2 c = search rules
 
 -- src/fitting.rt:80:13
-returns_2 : tie.Need-returns-2 invariant_loop decreases_loop
+returns_2 : tie.Need-returns-then-window-i-eq-LF invariant_loop decreases_loop
 returns_2 c =
     let a = c.before.before.before.before.before.args in
-    let i = c.before.before.before.loop.i in
-    tests_no (begun_no a.window.now a.begun i (omega arith) (omega arith) c.if2.true)
+    let i = c.before.before.before.loop-i.i in
+    tests_no (begun_no a.window.now a.begun i (omega arith) (omega arith) c.if-window-i-eq-LF.true)
 
 -- src/fitting.rt:82:9
-add_i : tie.Need-overflow-add-i invariant_loop decreases_loop
+add_i : tie.Need-overflow_add-i invariant_loop decreases_loop
 add_i c = search rules
 
 -- src/fitting.rt:78:5
-loop_less : tie.Need-loop-smaller invariant_loop decreases_loop
+loop_less : tie.Need-loop-i-smaller invariant_loop decreases_loop
 loop_less c = search rules
 
 -- src/fitting.rt:78:5
-loop_again : tie.Need-loop-preserved invariant_loop decreases_loop
-loop_again c = (search rules, below_more _ _ c.before.before.before.loop.invariant.1 c.if2.false)
+loop_again : tie.Need-loop-i-preserved invariant_loop decreases_loop
+loop_again c = (search rules, below_more _ _ c.before.before.before.loop-i.invariant.1 c.if-window-i-eq-LF.false)
 
 -- src/fitting.rt:70:1
-returns_3 : tie.Need-returns-3 invariant_loop decreases_loop
+returns_3 : tie.Need-returns invariant_loop decreases_loop
 returns_3 c =
     let a = c.before.before.before.args in
-    tests_yes (begun_yes a.window.now a.begun (omega arith) (omega arith) (λ k h. c.before.loop.invariant.1 k (omega arith)))
+    tests_yes (begun_yes a.window.now a.begun (omega arith) (omega arith) (λ k h. c.before.loop-i.invariant.1 k (omega arith)))
 
 pub is_begun_spec : {M : Type 1} → statement M
 is_begun_spec =

@@ -45,8 +45,8 @@ judge_kept_spec =
     (tie.spec
     (λ c κs. search rules)
     (λ c. search rules)
-    (λ c κs. let a = c.before.before.before.before.before.before.before.before.args in let g = grounded a.table.now (lent a.held.now a.held_owns.now a.sets.now a.earlier.now) a.«record» (sound_zero c.before.enum_told.given.1 c.before.before.before.judge-ground.ensures) in (g.table, (omega (arith, g.room.productions, g.within.nodes), omega (arith, g.room.owns, g.within.nodes))))
-    (λ c. let a = c.before.before.before.before.before.before.before.before.before.args in held a.table.now (lent a.held.now a.held_owns.now a.sets.now a.earlier.now) a.«record» _ (sound_zero c.before.before.enum_told.given.1 c.before.before.before.before.judge-ground.ensures) c.before.if1.true c.judge-holding.ensures)
+    (λ c κs. let a = c.before.before.before.before.before.before.before.before.args in let g = grounded a.table.now (lent a.held.now a.held_owns.now a.sets.now a.earlier.now) a.«record» (sound_zero c.before.enum_told.given.1 c.before.before.before.judge_ground.ensures) in (g.table, (omega (arith, g.room.productions, g.within.nodes), omega (arith, g.room.owns, g.within.nodes))))
+    (λ c. let a = c.before.before.before.before.before.before.before.before.before.args in held a.table.now (lent a.held.now a.held_owns.now a.sets.now a.earlier.now) a.«record» _ (sound_zero c.before.before.enum_told.given.1 c.before.before.before.before.judge_ground.ensures) c.before.if-record.true c.judge_holding.ensures)
     (λ c. search rules)
-    (λ c. let a = c.before.before.before.before.before.before.before.before.args in none_held a.table.now (lent a.held.now a.held_owns.now a.sets.now a.earlier.now) a.«record» (sound_zero c.before.enum_told.given.1 c.before.before.before.judge-ground.ensures) c.if1.false)
-    (λ c. let a = c.before.before.before.before.before.before.before.before.args in no_ground a.table.now (lent a.held.now a.held_owns.now a.sets.now a.earlier.now) a.«record» c.before.r.given.0.0 (refused_number c.before.r.given.1 c.before.before.before.judge-ground.ensures)))
+    (λ c. let a = c.before.before.before.before.before.before.before.before.args in none_held a.table.now (lent a.held.now a.held_owns.now a.sets.now a.earlier.now) a.«record» (sound_zero c.before.enum_told.given.1 c.before.before.before.judge_ground.ensures) c.if-record.false)
+    (λ c. let a = c.before.before.before.before.before.before.before.before.args in no_ground a.table.now (lent a.held.now a.held_owns.now a.sets.now a.earlier.now) a.«record» c.before.r.given.0.0 (refused_number c.before.r.given.1 c.before.before.before.judge_ground.ensures)))

@@ -25,10 +25,10 @@ record Stands (t : List ℕ) (y x : Expected) (n : ℕ) : Type 0 where
   so : Sofar t x
   same : sofar_refusal t y ≡ walk_refusal n t x y
 
-abbrev invariant_loop : tie.invariant_loop
+abbrev invariant_loop : tie.invariant-loop-still
 invariant_loop table expected x₀ still₀ x still = Stands table expected x still
 
-abbrev decreases_loop : tie.decreases_loop
+abbrev decreases_loop : tie.decreases-loop-still
 decreases_loop table expected x₀ still₀ x still = still
 
 module _ (t : List ℕ) (y x : Expected) (n : ℕ) (i : Stands t y x n) (l : 0 < n) (b : Bool) (same : Tests b ((x ≡ y) × (is_on x ≡ true))) where
@@ -55,13 +55,13 @@ judge_so_far_spec =
     decreases_loop
     (λ c. record { so = tt; same = refl })
     (λ c κs. search rules)
-    (λ c. let a = c.before.before.before.before.args in let l = c.before.before.before.loop in arrives a.table.now a.expected l.x l.still l.invariant (omega arith) _ c.before.is_same.ensures c.if1.true)
-    (λ c κs. let l = c.before.before.before.loop in awaits_so c.before.before.before.before.args.table.now l.x l.invariant.so)
+    (λ c. let a = c.before.before.before.before.args in let l = c.before.before.before.loop-still in arrives a.table.now a.expected l.x l.still l.invariant (omega arith) _ c.before.is_same.ensures c.if-is_same.true)
+    (λ c κs. let l = c.before.before.before.loop-still in awaits_so c.before.before.before.before.args.table.now l.x l.invariant.so)
     (λ c. search rules)
-    (λ c κs. let l = c.before.before.before.before.before.before.loop in ready_so c.before.before.before.before.before.before.before.args.table.now l.x l.invariant.so (frame_none _ l.x (sound_zero c.enum_told.given.1 c.before.before.judge-at.ensures)).1)
+    (λ c κs. let l = c.before.before.before.before.before.before.loop-still in ready_so c.before.before.before.before.before.before.before.args.table.now l.x l.invariant.so (frame_none _ l.x (sound_zero c.enum_told.given.1 c.before.before.judge_at.ensures)).1)
     (λ c. search rules)
     (λ c. search rules)
-    (λ c. let a = c.before.before.before.before.before.before.before.before.args in let l = c.before.before.before.before.before.before.before.loop in rw c.next_of_lem.ensures (passes a.table.now a.expected l.x l.still l.invariant (omega arith) _ c.before.before.before.before.before.is_same.ensures c.before.before.before.before.if1.false (sound_zero c.before.enum_told.given.1 c.before.before.before.judge-at.ensures)))
+    (λ c. let a = c.before.before.before.before.before.before.before.before.args in let l = c.before.before.before.before.before.before.before.loop-still in rw c.next_of_lem.ensures (passes a.table.now a.expected l.x l.still l.invariant (omega arith) _ c.before.before.before.before.before.is_same.ensures c.before.before.before.before.if-is_same.false (sound_zero c.before.enum_told.given.1 c.before.before.before.judge_at.ensures)))
     (λ c. search rules)
-    (λ c. let a = c.before.before.before.before.before.before.before.before.args in let l = c.before.before.before.before.before.before.before.loop in stops a.table.now a.expected l.x l.still l.invariant (omega arith) _ c.before.before.before.before.before.is_same.ensures c.before.before.before.before.if1.false c.before.r.given.0.0 (refused_number c.before.r.given.1 c.before.before.before.judge-at.ensures))
-    (λ c. let a = c.before.before.args in let l = c.before.loop in sym (l.invariant.same ∙ walk_out a.table.now l.x a.expected l.still (omega arith))))
+    (λ c. let a = c.before.before.before.before.before.before.before.before.args in let l = c.before.before.before.before.before.before.before.loop-still in stops a.table.now a.expected l.x l.still l.invariant (omega arith) _ c.before.before.before.before.before.is_same.ensures c.before.before.before.before.if-is_same.false c.before.r.given.0.0 (refused_number c.before.r.given.1 c.before.before.before.judge_at.ensures))
+    (λ c. let a = c.before.before.args in let l = c.before.loop-still in sym (l.invariant.same ∙ walk_out a.table.now l.x a.expected l.still (omega arith))))

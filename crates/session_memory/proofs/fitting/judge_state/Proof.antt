@@ -77,82 +77,82 @@ abbrev memory : tie.Start → Memory
 memory s = lent s.args.held.now s.args.held_owns.now s.args.sets.now s.args.earlier.now
 
 -- where the code has passed the line
-abbrev begins : tie.Else1 → tie.Start
+abbrev begins : tie.Else-not-is_begun → tie.Start
 begins e = e.before.before.before.before.before.before.before.before
 
-passes : (e : tie.Else1) (awaited : Awaited) (n : ℕ) → (begins e).args.state.awaited ≡ awaited → n ≡ refusal_by (awaited_order awaited (begins e).args.table.now (begins e).args.part_owns_lem.now (memory (begins e)) (begins e).args.state.«record»)
+passes : (e : tie.Else-not-is_begun) (awaited : Awaited) (n : ℕ) → (begins e).args.state.awaited ≡ awaited → n ≡ refusal_by (awaited_order awaited (begins e).args.table.now (begins e).args.part_owns_lem.now (memory (begins e)) (begins e).args.state.«record»)
     → n ≡ refusal_by (settled_order (begins e).args.state (begins e).args.table.now (begins e).args.window.now (begins e).args.part_owns_lem.now (memory (begins e)))
 passes e awaited n h k =
     let a = (begins e).args in
-    settles a.state a.table.now a.window.now a.part_owns_lem.now (memory (begins e)) _ e.before.is-begun.ensures awaited n (not_false e.before.is-begun.result e.if1.false) h k
+    settles a.state a.table.now a.window.now a.part_owns_lem.now (memory (begins e)) _ e.before.is_begun.ensures awaited n (not_false e.before.is_begun.result e.if-not-is_begun.false) h k
 
-returns : tie.Need-returns
+returns : tie.Need-returns-then-not-is_begun
 returns c =
     let s = c.before.before.before.before.before.before.before.before in
     let a = s.args in
-    no_line a.state a.table.now a.window.now a.part_owns_lem.now (memory s) _ c.before.is-begun.ensures (not_true c.before.is-begun.result c.if1.true)
+    no_line a.state a.table.now a.window.now a.part_owns_lem.now (memory s) _ c.before.is_begun.ensures (not_true c.before.is_begun.result c.if-not-is_begun.true)
 
-returns_2 : tie.Need-returns-2
+returns_2 : tie.Need-returns-then-is_misnamed
 returns_2 c =
     let e = c.before.before.before.before.before.before in
     let s = begins e in
     let a = s.args in
-    let g = c.before.before.before.awaited2.given in
-    passes e (Naming g.0.0 g.0.1.0 g.0.1.1.0) _ g.1 (no_point a.table.now a.part_owns_lem.now (memory s) a.state.«record» g.0.0 g.0.1.0 g.0.1.1.0 (sym c.before.is-misnamed.ensures ∙ c.if2.true))
+    let g = c.before.before.before.awaited-in-Naming-1.given in
+    passes e (Naming g.0.0 g.0.1.0 g.0.1.1.0) _ g.1 (no_point a.table.now a.part_owns_lem.now (memory s) a.state.«record» g.0.0 g.0.1.0 g.0.1.1.0 (sym c.before.is_misnamed.ensures ∙ c.if-is_misnamed.true))
 
-returns_3 : tie.Need-returns-3
+returns_3 : tie.Need-returns-then-count-taken
 returns_3 c =
     let e = c.before.before.before.before.before in
     let s = begins e in
     let a = s.args in
-    let g = c.before.before.awaited3.given in
-    passes e (Nodes g.0.0 g.0.1.0 g.0.1.1.0 g.0.1.1.1.0) _ g.1 (no_room a.table.now a.part_owns_lem.now (memory s) a.state.«record» g.0.0 g.0.1.0 g.0.1.1.0 g.0.1.1.1.0 (omega (arith, c.if3.true)))
+    let g = c.before.before.awaited-in-Nodes-1.given in
+    passes e (Nodes g.0.0 g.0.1.0 g.0.1.1.0 g.0.1.1.1.0) _ g.1 (no_room a.table.now a.part_owns_lem.now (memory s) a.state.«record» g.0.0 g.0.1.0 g.0.1.1.0 g.0.1.1.1.0 (omega (arith, c.if-count-taken.true)))
 
-returns_4 : tie.Need-returns-4
+returns_4 : tie.Need-returns-in-Table
 returns_4 c =
     let e = c.before.before.before.before.before in
     let s = begins e in
     let a = s.args in
     let g = c.before.before.awaited.given in
-    passes e (Table g.0.0) _ g.1 (c.judge-so-far.ensures ∙ table a.table.now a.part_owns_lem.now (memory s) a.state.«record» g.0.0)
+    passes e (Table g.0.0) _ g.1 (c.judge_so_far.ensures ∙ table a.table.now a.part_owns_lem.now (memory s) a.state.«record» g.0.0)
 
-returns_5 : tie.Need-returns-5
+returns_5 : tie.Need-returns-in-Command
 returns_5 c =
     let e = c.before.before.before.before in
     let s = begins e in
     let a = s.args in
-    passes e Command _ c.before.enum_told.given.1 (c.judge-kept.ensures ∙ command a.table.now a.part_owns_lem.now (memory s) a.state.«record»)
+    passes e Command _ c.before.enum_told.given.1 (c.judge_kept.ensures ∙ command a.table.now a.part_owns_lem.now (memory s) a.state.«record»)
 
-returns_6 : tie.Need-returns-6
+returns_6 : tie.Need-returns-else-is_misnamed
 returns_6 c =
     let e = c.before.before.before.before.before.before.before in
     let s = begins e in
     let a = s.args in
-    let g = c.before.before.before.before.awaited2.given in
-    passes e (Naming g.0.0 g.0.1.0 g.0.1.1.0) _ g.1 (c.judge-kept2.ensures ∙ point a.table.now a.part_owns_lem.now (memory s) a.state.«record» g.0.0 g.0.1.0 g.0.1.1.0 (sym c.before.before.is-misnamed.ensures ∙ c.before.if2.false))
+    let g = c.before.before.before.before.awaited-in-Naming-1.given in
+    passes e (Naming g.0.0 g.0.1.0 g.0.1.1.0) _ g.1 (c.judge_kept-in-Naming.ensures ∙ point a.table.now a.part_owns_lem.now (memory s) a.state.«record» g.0.0 g.0.1.0 g.0.1.1.0 (sym c.before.before.is_misnamed.ensures ∙ c.before.if-is_misnamed.false))
 
-returns_7 : tie.Need-returns-7
+returns_7 : tie.Need-returns-else-count-taken
 returns_7 c =
     let e = c.before.before.before.before.before.before in
     let s = begins e in
     let a = s.args in
-    let g = c.before.before.before.awaited3.given in
-    passes e (Nodes g.0.0 g.0.1.0 g.0.1.1.0 g.0.1.1.1.0) _ g.1 (c.judge-kept3.ensures ∙ node a.table.now a.part_owns_lem.now (memory s) a.state.«record» g.0.0 g.0.1.0 g.0.1.1.0 g.0.1.1.1.0 (omega (arith, c.before.if3.false)))
+    let g = c.before.before.before.awaited-in-Nodes-1.given in
+    passes e (Nodes g.0.0 g.0.1.0 g.0.1.1.0 g.0.1.1.1.0) _ g.1 (c.judge_kept-in-Nodes.ensures ∙ node a.table.now a.part_owns_lem.now (memory s) a.state.«record» g.0.0 g.0.1.0 g.0.1.1.0 g.0.1.1.1.0 (omega (arith, c.before.if-count-taken.false)))
 
-returns_8 : tie.Need-returns-8
+returns_8 : tie.Need-returns-in-Working
 returns_8 c =
     let e = c.before.before.before.before.before in
     let s = begins e in
     let a = s.args in
-    let g = c.before.before.awaited4.given in
+    let g = c.before.before.awaited-in-Working-1.given in
     passes e (Working g.0.0) _ g.1 (c.judge_step.ensures ∙ working a.table.now a.part_owns_lem.now (memory s) a.state.«record» g.0.0)
 
-returns_9 : tie.Need-returns-9
+returns_9 : tie.Need-returns-in-Stopped
 returns_9 c =
     let e = c.before.before.before in
     let s = begins e in
     let a = s.args in
-    passes e Stopped _ c.enum-told2.given.1 (over a.table.now a.part_owns_lem.now (memory s) a.state.«record»)
+    passes e Stopped _ c.enum_told-in-Stopped-1.given.1 (over a.table.now a.part_owns_lem.now (memory s) a.state.«record»)
 
 pub judge_state_spec : {M : Type 1} → statement M
 judge_state_spec =

@@ -12,4 +12,4 @@ equation_at_spec =
     (λ c κs. search rules)
     (λ c κs. search rules)
     (λ c κs. search rules)
-    (λ c. rw (c.operation.ensures, c.before.constant-at.ensures, c.before.before.head_at.ensures)))
+    (λ c. rw (c.operation-op.ensures, c.before.constant_at.ensures, c.before.before.head_at.ensures)))

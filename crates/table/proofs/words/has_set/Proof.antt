@@ -11,6 +11,6 @@ has_set_spec =
     tie.close
     (tie.spec
     (λ c κs. search rules)
-    (λ c. rw (lt-ltb _ _ c.before.if1.true, c.synthesized-of.ensures))
+    (λ c. rw (lt-ltb _ _ c.before.if-i-lt-SETS_EACH.true, c.synthesized_of.ensures))
     (λ c κs. search rules)
-    (λ c. rw (le-ltb _ _ c.before.if1.false, c.inherited-of.ensures)))
+    (λ c. rw (le-ltb _ _ c.before.if-i-lt-SETS_EACH.false, c.inherited_of.ensures)))

@@ -8,18 +8,18 @@ use borrow.Author.Rules.{rules}
 use Rattle.table.proofs.words.occurs_at.Statement.{statement}
 use Rattle.table.proofs.words.occurs_at.Tie as tie
 
-has_set_requires : tie.Need-has-set-requires
+has_set_requires : tie.Need-has_set-requires
 has_set_requires c κs =
     let s = c.before.before.before in
     let h : s.args.q ≤ child_count s.args.table.now s.args.p = omega arith in
-    rw c.symbol-at.ensures (s.requires.1.small s.args.q h)
+    rw c.symbol_at.ensures (s.requires.1.small s.args.q h)
 
-returns_2 : tie.Need-returns-2
+returns_2 : tie.Need-returns
 unfolding occurs
 returns_2 c =
     let s = c.before.before.before.before in
     let h : s.args.q ≤ child_count s.args.table.now s.args.p = omega arith in
-    rw (le-leb _ _ h) (c.has_set_lem.ensures ∙ rw c.before.symbol-at.ensures)
+    rw (le-leb _ _ h) (c.has_set_lem.ensures ∙ rw c.before.symbol_at.ensures)
 
 pub occurs_at_spec : {M : Type 1} → statement M
 unfolding occurs

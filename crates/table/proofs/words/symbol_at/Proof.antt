@@ -10,7 +10,7 @@ symbol_at_spec =
     tie.close
     (tie.spec
     (λ c κs. search rules)
-    (λ c. rw c.before.if1.true c.left-of.ensures)
+    (λ c. rw c.before.if-q-eq0.true c.left_of.ensures)
     (λ c. search rules)
     (λ c κs. search rules)
-    (λ c. let a = c.before.before.args in c.child-of.ensures ∙ sym (at_child a.table.now a.p a.q c.before.if1.false)))
+    (λ c. let a = c.before.before.args in c.child_of.ensures ∙ sym (at_child a.table.now a.p a.q c.before.if-q-eq0.false)))

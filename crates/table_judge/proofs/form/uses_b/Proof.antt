@@ -17,6 +17,6 @@ unfolding uses_b
 uses_b_spec =
     tie.close
     (tie.spec
-    (λ c. sym (low _ c.if1.true))
-    (λ c. rw (le-leb _ _ c.before.if1.false, le-leb _ _ c.if2.true))
-    (λ c. rw (le-leb _ _ c.before.if1.false, lt-leb _ _ c.if2.false)))
+    (λ c. sym (low _ c.if-op-lt4.true))
+    (λ c. rw (le-leb _ _ c.before.if-op-lt4.false, le-leb _ _ c.if-op-le7.true))
+    (λ c. rw (le-leb _ _ c.before.if-op-lt4.false, lt-leb _ _ c.if-op-le7.false)))

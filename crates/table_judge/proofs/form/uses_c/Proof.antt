@@ -9,9 +9,9 @@ unfolding uses_c
 uses_c_spec =
     tie.close
     (tie.spec
-    (λ c. rw c.match.keys1)
-    (λ c. rw c.match.keys2)
-    (λ c. rw c.match.keys3)
-    (λ c. rw c.match.keys4)
-    (λ c. rw c.match.keys5)
-    (λ c. let r = c.match.rest in rw (ne_eqb _ _ r.0.0.0.0.1, ne_eqb _ _ r.0.0.0.1, ne_eqb _ _ r.0.0.1, ne_eqb _ _ r.0.1, ne_eqb _ _ r.1)))
+    (λ c. rw c.in-0.keys1)
+    (λ c. rw c.in-0.keys2)
+    (λ c. rw c.in-0.keys3)
+    (λ c. rw c.in-0.keys4)
+    (λ c. rw c.in-0.keys5)
+    (λ c. let r = c.in-0.rest in rw (ne_eqb _ _ r.0.0.0.0.1, ne_eqb _ _ r.0.0.0.1, ne_eqb _ _ r.0.0.1, ne_eqb _ _ r.0.1, ne_eqb _ _ r.1)))

@@ -11,28 +11,28 @@ use borrow.Author.Rules.{rules}
 use Rattle.table_judge.proofs.judge.judge_equations.Statement.{statement}
 use Rattle.table_judge.proofs.judge.judge_equations.Tie as tie
 
-abbrev invariant_loop : tie.invariant_loop
+abbrev invariant_loop : tie.invariant-loop-q
 invariant_loop table p count q₀ q = (q ≤ count + 1) × (scan (position_of table p) q ≡ 0)
 
-abbrev decreases_loop : tie.decreases_loop
+abbrev decreases_loop : tie.decreases-loop-q
 decreases_loop table p count q₀ q = count + 1 - q
 
-loop_again : tie.Need-loop-preserved invariant_loop decreases_loop
+loop_again : tie.Need-loop-q-preserved invariant_loop decreases_loop
 loop_again c =
     let a = c.before.before.before.before.before.before.args in
-    let l = c.before.before.before.before.loop in
-    (omega arith, goes (position_of a.table.now a.p) l.q c.enum_told.given.1 c.before.before.judge-position.ensures l.invariant.1)
+    let l = c.before.before.before.before.loop-q in
+    (omega arith, goes (position_of a.table.now a.p) l.q c.enum_told.given.1 c.before.before.judge_position.ensures l.invariant.1)
 
-returns : tie.Need-returns invariant_loop decreases_loop
+returns : tie.Need-returns-in-Refused invariant_loop decreases_loop
 returns c =
     let a = c.before.before.before.before.before.before.before.args in
-    let l = c.before.before.before.before.before.loop in
-    stops (position_of a.table.now a.p) l.q (suc (child_count a.table.now a.p)) c.before.r.given.1 c.before.before.before.judge-position.ensures l.invariant.1 (omega arith)
+    let l = c.before.before.before.before.before.loop-q in
+    stops (position_of a.table.now a.p) l.q (suc (child_count a.table.now a.p)) c.before.r.given.1 c.before.before.before.judge_position.ensures l.invariant.1 (omega arith)
 
-returns_2 : tie.Need-returns-2 invariant_loop decreases_loop
+returns_2 : tie.Need-returns invariant_loop decreases_loop
 returns_2 c =
     let a = c.before.before.before.args in
-    let l = c.before.loop in
+    let l = c.before.loop-q in
     let e : l.q ≡ suc (child_count a.table.now a.p) = omega arith in
     sym (ap (scan (position_of a.table.now a.p)) (sym e) ∙ l.invariant.1)
 

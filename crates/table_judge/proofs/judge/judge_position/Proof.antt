@@ -11,28 +11,28 @@ use borrow.Author.Rules.{rules}
 use Rattle.table_judge.proofs.judge.judge_position.Statement.{statement}
 use Rattle.table_judge.proofs.judge.judge_position.Tie as tie
 
-abbrev invariant_loop : tie.invariant_loop
+abbrev invariant_loop : tie.invariant-loop-k
 invariant_loop table p q count k₀ k = (k ≤ count) × (scan (equation_number table p q) k ≡ 0)
 
-abbrev decreases_loop : tie.decreases_loop
+abbrev decreases_loop : tie.decreases-loop-k
 decreases_loop table p q count k₀ k = count - k
 
-loop_again : tie.Need-loop-preserved invariant_loop decreases_loop
+loop_again : tie.Need-loop-k-preserved invariant_loop decreases_loop
 loop_again c =
     let a = c.before.before.before.before.before.before.args in
-    let l = c.before.before.before.before.loop in
-    (omega arith, goes (equation_number a.table.now a.p a.q) l.k c.enum_told.given.1 c.before.before.judge-equation.ensures l.invariant.1)
+    let l = c.before.before.before.before.loop-k in
+    (omega arith, goes (equation_number a.table.now a.p a.q) l.k c.enum_told.given.1 c.before.before.judge_equation.ensures l.invariant.1)
 
-returns : tie.Need-returns invariant_loop decreases_loop
+returns : tie.Need-returns-in-Refused invariant_loop decreases_loop
 returns c =
     let a = c.before.before.before.before.before.before.before.args in
-    let l = c.before.before.before.before.before.loop in
-    stops (equation_number a.table.now a.p a.q) l.k (defined a.table.now a.p a.q) c.before.r.given.1 c.before.before.before.judge-equation.ensures l.invariant.1 (omega arith)
+    let l = c.before.before.before.before.before.loop-k in
+    stops (equation_number a.table.now a.p a.q) l.k (defined a.table.now a.p a.q) c.before.r.given.1 c.before.before.before.judge_equation.ensures l.invariant.1 (omega arith)
 
-returns_2 : tie.Need-returns-2 invariant_loop decreases_loop
+returns_2 : tie.Need-returns invariant_loop decreases_loop
 returns_2 c =
     let a = c.before.before.before.args in
-    let l = c.before.loop in
+    let l = c.before.loop-k in
     let e : l.k ≡ defined a.table.now a.p a.q = omega arith in
     sym (ap (scan (equation_number a.table.now a.p a.q)) (sym e) ∙ l.invariant.1)
 

@@ -9,19 +9,19 @@ use borrow.Author.Rules.{rules}
 use Rattle.table_judge.proofs.judge.judge_production.Statement.{statement}
 use Rattle.table_judge.proofs.judge.judge_production.Tie as tie
 
-returns_2 : tie.Need-returns-2
+returns_2 : tie.Need-returns-then-is_foreign
 unfolding refusal_at
 returns_2 c =
     let a = c.before.before.before.before.args in
     let h : child_count a.table.now a.p ≤ 4 = omega arith in
-    rw (le-ltb _ _ h, sym c.before.is-foreign.ensures ∙ c.if2.true)
+    rw (le-ltb _ _ h, sym c.before.is_foreign.ensures ∙ c.if-is_foreign.true)
 
-returns_3 : tie.Need-returns-3
+returns_3 : tie.Need-returns
 unfolding refusal_at
 returns_3 c =
     let a = c.before.before.before.before.args in
     let h : child_count a.table.now a.p ≤ 4 = omega arith in
-    rw (le-ltb _ _ h, sym c.before.is-foreign.ensures ∙ c.if2.false)
+    rw (le-ltb _ _ h, sym c.before.is_foreign.ensures ∙ c.if-is_foreign.false)
 
 pub judge_production_spec : {M : Type 1} → statement M
 unfolding refusal_at

@@ -11,28 +11,28 @@ use borrow.Author.Rules.{rules}
 use Rattle.table_judge.proofs.judge.judge_productions.Statement.{statement}
 use Rattle.table_judge.proofs.judge.judge_productions.Tie as tie
 
-abbrev invariant_loop : tie.invariant_loop
+abbrev invariant_loop : tie.invariant-loop-p
 invariant_loop table count p₀ p = (p ≤ count) × (scan (part_number table) p ≡ 0)
 
-abbrev decreases_loop : tie.decreases_loop
+abbrev decreases_loop : tie.decreases-loop-p
 decreases_loop table count p₀ p = count - p
 
-loop_again : tie.Need-loop-preserved invariant_loop decreases_loop
+loop_again : tie.Need-loop-p-preserved invariant_loop decreases_loop
 loop_again c =
     let a = c.before.before.before.before.before.before.args in
-    let l = c.before.before.before.before.loop in
-    (omega arith, goes (part_number a.table.now) l.p c.enum_told.given.1 c.before.before.judge-part.ensures l.invariant.1)
+    let l = c.before.before.before.before.loop-p in
+    (omega arith, goes (part_number a.table.now) l.p c.enum_told.given.1 c.before.before.judge_part.ensures l.invariant.1)
 
-returns : tie.Need-returns invariant_loop decreases_loop
+returns : tie.Need-returns-in-Refused invariant_loop decreases_loop
 returns c =
     let a = c.before.before.before.before.before.before.before.args in
-    let l = c.before.before.before.before.before.loop in
-    stops (part_number a.table.now) l.p (production_count a.table.now) c.before.r.given.1 c.before.before.before.judge-part.ensures l.invariant.1 (omega arith)
+    let l = c.before.before.before.before.before.loop-p in
+    stops (part_number a.table.now) l.p (production_count a.table.now) c.before.r.given.1 c.before.before.before.judge_part.ensures l.invariant.1 (omega arith)
 
-returns_2 : tie.Need-returns-2 invariant_loop decreases_loop
+returns_2 : tie.Need-returns invariant_loop decreases_loop
 returns_2 c =
     let a = c.before.before.before.args in
-    let l = c.before.loop in
+    let l = c.before.loop-p in
     let e : l.p ≡ production_count a.table.now = omega arith in
     sym (ap (scan (part_number a.table.now)) (sym e) ∙ l.invariant.1)
 

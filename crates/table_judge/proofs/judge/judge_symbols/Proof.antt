@@ -11,28 +11,28 @@ use borrow.Author.Rules.{rules}
 use Rattle.table_judge.proofs.judge.judge_symbols.Statement.{statement}
 use Rattle.table_judge.proofs.judge.judge_symbols.Tie as tie
 
-abbrev invariant_loop : tie.invariant_loop
+abbrev invariant_loop : tie.invariant-loop-s
 invariant_loop table count s₀ s = (s ≤ count) × (scan (symbol_number table) s ≡ 0)
 
-abbrev decreases_loop : tie.decreases_loop
+abbrev decreases_loop : tie.decreases-loop-s
 decreases_loop table count s₀ s = count - s
 
-loop_again : tie.Need-loop-preserved invariant_loop decreases_loop
+loop_again : tie.Need-loop-s-preserved invariant_loop decreases_loop
 loop_again c =
     let a = c.before.before.before.before.before.before.args in
-    let l = c.before.before.before.before.loop in
-    (omega arith, goes (symbol_number a.table.now) l.s c.enum_told.given.1 c.before.before.judge-symbol.ensures l.invariant.1)
+    let l = c.before.before.before.before.loop-s in
+    (omega arith, goes (symbol_number a.table.now) l.s c.enum_told.given.1 c.before.before.judge_symbol.ensures l.invariant.1)
 
-returns : tie.Need-returns invariant_loop decreases_loop
+returns : tie.Need-returns-in-Refused invariant_loop decreases_loop
 returns c =
     let a = c.before.before.before.before.before.before.before.args in
-    let l = c.before.before.before.before.before.loop in
-    stops (symbol_number a.table.now) l.s (symbol_count a.table.now) c.before.r.given.1 c.before.before.before.judge-symbol.ensures l.invariant.1 (omega arith)
+    let l = c.before.before.before.before.before.loop-s in
+    stops (symbol_number a.table.now) l.s (symbol_count a.table.now) c.before.r.given.1 c.before.before.before.judge_symbol.ensures l.invariant.1 (omega arith)
 
-returns_2 : tie.Need-returns-2 invariant_loop decreases_loop
+returns_2 : tie.Need-returns invariant_loop decreases_loop
 returns_2 c =
     let a = c.before.before.before.args in
-    let l = c.before.loop in
+    let l = c.before.loop-s in
     let e : l.s ≡ symbol_count a.table.now = omega arith in
     sym (ap (scan (symbol_number a.table.now)) (sym e) ∙ l.invariant.1)
 

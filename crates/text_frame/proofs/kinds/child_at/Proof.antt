@@ -12,5 +12,5 @@ child_at_spec =
     (λ c. search rules)
     (λ c. search rules)
     (λ c κs. search rules)
-    (λ c. simp (lt-ltb _ _ c.before.if1.true) c.byte.ensures)
-    (λ c. simp (le-ltb _ _ c.if1.false)))
+    (λ c. simp (lt-ltb _ _ c.before.if-j-count.true) c.byte.ensures)
+    (λ c. simp (le-ltb _ _ c.if-j-count.false)))

@@ -11,7 +11,7 @@ corrections_frame_spec =
     tie.close
     (tie.spec
     (λ c κs. search rules)
-    (λ c. simp (ne_eqb _ _ c.before.if1.true) c.wrong.ensures)
+    (λ c. simp (ne_eqb _ _ c.before.if-n-ne4.true) c.wrong.ensures)
     (λ c. search rules)
     (λ c κs. search rules)
-    (λ c. simp (eq-eqb _ _ c.before.if1.false) (rw (← c.byte.ensures))))
+    (λ c. simp (eq-eqb _ _ c.before.if-n-ne4.false) (rw (← c.byte-count.ensures))))

@@ -11,5 +11,5 @@ dump_frame_spec =
     tie.close
     (tie.spec
     (λ c κs. search rules)
-    (λ c. simp (ne_eqb _ _ c.before.if1.true) c.wrong.ensures)
-    (λ c. simp (eq-eqb _ _ c.if1.false)))
+    (λ c. simp (ne_eqb _ _ c.before.if-n-ne2.true) c.wrong.ensures)
+    (λ c. simp (eq-eqb _ _ c.if-n-ne2.false)))

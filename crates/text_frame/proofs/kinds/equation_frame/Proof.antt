@@ -11,7 +11,7 @@ equation_frame_spec =
     tie.close
     (tie.spec
     (λ c κs. search rules)
-    (λ c. simp (ne_eqb _ _ c.before.if1.true) c.wrong.ensures)
+    (λ c. simp (ne_eqb _ _ c.before.if-n-ne28.true) c.wrong.ensures)
     (λ c. search rules)
     (λ c κs. search rules)
     (λ c. search rules)
@@ -24,4 +24,4 @@ equation_frame_spec =
     (λ c κs. search rules)
     (λ c. search rules)
     (λ c κs. search rules)
-    (λ c. simp (eq-eqb _ _ c.before.before.before.before.before.before.if1.false) (rw (← c.before.before.before.before.before.byte.ensures, ← c.before.before.before.before.byte2.ensures, ← c.before.before.before.byte3.ensures, ← c.before.before.byte4.ensures, ← c.before.byte5.ensures, ← c.number.ensures))))
+    (λ c. simp (eq-eqb _ _ c.before.before.before.before.before.before.if-n-ne28.false) (rw (← c.before.before.before.before.before.byte-op.ensures, ← c.before.before.before.before.byte-ap.ensures, ← c.before.before.before.byte-ai.ensures, ← c.before.before.byte-bp.ensures, ← c.before.byte-bi.ensures, ← c.number-c.ensures))))

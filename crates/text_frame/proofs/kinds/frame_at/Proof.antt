@@ -23,5 +23,5 @@ frame_at_spec =
     (λ c. let a = c.before.before.before.before.before.before.before.args in omega (arith, (line_says a.text.now a.place c.before.before.before.found.given.0.0 (sym c.before.before.before.before.before.line_at_lem.ensures ∙ c.before.before.before.found.given.1)).many))
     (λ c. let a = c.before.before.before.before.before.before.before.args in omega (arith, (line_says a.text.now a.place c.before.before.before.found.given.0.0 (sym c.before.before.before.before.before.line_at_lem.ensures ∙ c.before.before.before.found.given.1)).inside, c.before.before.before.before.before.before.before.well-formed))
     (λ c. let a = c.before.before.before.before.args in let e : line_at a.text.now a.place ≡ End = sym c.before.before.line_at_lem.ensures ∙ c.enum_told.given.1 in rw e)
-    (λ c. let a = c.before.before.before.before.args in let e : line_at a.text.now a.place ≡ Bad = sym c.before.before.line_at_lem.ensures ∙ c.enum-told2.given.1 in rw e)
-    (λ c. let a = c.before.before.before.before.before.before.before.args in let e : line_at a.text.now a.place ≡ Digits c.before.before.before.found.given.0.0 = sym c.before.before.before.before.before.line_at_lem.ensures ∙ c.before.before.before.found.given.1 in rw (e, ← c.before.frame-of.ensures, ← c.line_after.ensures)))
+    (λ c. let a = c.before.before.before.before.args in let e : line_at a.text.now a.place ≡ Bad = sym c.before.before.line_at_lem.ensures ∙ c.enum_told-in-Bad-1.given.1 in rw e)
+    (λ c. let a = c.before.before.before.before.before.before.before.args in let e : line_at a.text.now a.place ≡ Digits c.before.before.before.found.given.0.0 = sym c.before.before.before.before.before.line_at_lem.ensures ∙ c.before.before.before.found.given.1 in rw (e, ← c.before.frame_of-frame.ensures, ← c.line_after-after.ensures)))

@@ -9,5 +9,5 @@ line_after_spec =
     tie.close
     (tie.spec
     (λ c. search rules)
-    (λ c. simp (lt-ltb _ _ c.if1.true))
-    (λ c. simp (le-ltb _ _ c.if1.false)))
+    (λ c. simp (lt-ltb _ _ c.if-line-lt4294967295.true))
+    (λ c. simp (le-ltb _ _ c.if-line-lt4294967295.false)))

@@ -11,7 +11,7 @@ load_frame_spec =
     tie.close
     (tie.spec
     (λ c κs. search rules)
-    (λ c. simp (ne_eqb _ _ c.before.if1.true) c.wrong.ensures)
+    (λ c. simp (ne_eqb _ _ c.before.if-n-ne6.true) c.wrong.ensures)
     (λ c. search rules)
     (λ c κs. search rules)
-    (λ c. simp (eq-eqb _ _ c.before.if1.false) (rw (← c.pair.ensures))))
+    (λ c. simp (eq-eqb _ _ c.before.if-n-ne6.false) (rw (← c.pair-count.ensures))))

@@ -11,27 +11,27 @@ use borrow.Author.Rules.{rules}
 use Rattle.text_frame.proofs.kinds.production_frame.Statement.{statement}
 use Rattle.text_frame.proofs.kinds.production_frame.Tie as tie
 
-returns_2 : tie.Need-returns-2
+returns_2 : tie.Need-returns-then-n-asked
 unfolding production_of
 returns_2 c =
     let d = c.before.before in
     let a = d.before.before.before.args in
-    let e : a.n ≡ 6 + 2 * num_at 2 a.text.now (a.place + 4) → ⊥ = λ k. c.before.if2.true (omega (arith, k, d.byte.ensures)) in
-    simp (le-ltb _ _ d.before.if1.false, ne_eqb _ _ e) c.wrong2.ensures
+    let e : a.n ≡ 6 + 2 * num_at 2 a.text.now (a.place + 4) → ⊥ = λ k. c.before.if-n-asked.true (omega (arith, k, d.byte-count.ensures)) in
+    simp (le-ltb _ _ d.before.if-n-lt6.false, ne_eqb _ _ e) c.wrong-then-n-asked.ensures
 
-returns_3 : tie.Need-returns-3
+returns_3 : tie.Need-returns
 unfolding production_of
 returns_3 c =
     let d = c.before.before.before.before.before.before in
     let a = d.before.before.before.args in
-    let e : a.n ≡ 6 + 2 * num_at 2 a.text.now (a.place + 4) = omega (arith, d.byte.ensures, c.before.before.before.before.before.if2.false) in
-    let n : d.byte.result ≡ num_at 2 a.text.now (a.place + 4) = d.byte.ensures in
-    let one : c.before.before.before.child-at.result ≡ child_at a.text.now a.place (num_at 2 a.text.now (a.place + 4)) 0 = rw (← n) c.before.before.before.child-at.ensures in
-    let two : c.before.before.child-at2.result ≡ child_at a.text.now a.place (num_at 2 a.text.now (a.place + 4)) 1 = rw (← n) c.before.before.child-at2.ensures in
-    let three : c.before.child-at3.result ≡ child_at a.text.now a.place (num_at 2 a.text.now (a.place + 4)) 2 = rw (← n) c.before.child-at3.ensures in
-    let four : c.child-at4.result ≡ child_at a.text.now a.place (num_at 2 a.text.now (a.place + 4)) 3 = rw (← n) c.child-at4.ensures in
-    let left : c.before.before.before.before.byte2.result ≡ num_at 2 a.text.now (a.place + 2) = c.before.before.before.before.byte2.ensures in
-    simp (le-ltb _ _ d.before.if1.false, eq-eqb _ _ e) (λ i. Rule (Production (left i) (n i) (record { one = one i; two = two i; three = three i; four = four i })))
+    let e : a.n ≡ 6 + 2 * num_at 2 a.text.now (a.place + 4) = omega (arith, d.byte-count.ensures, c.before.before.before.before.before.if-n-asked.false) in
+    let n : d.byte-count.result ≡ num_at 2 a.text.now (a.place + 4) = d.byte-count.ensures in
+    let one : c.before.before.before.child_at-one.result ≡ child_at a.text.now a.place (num_at 2 a.text.now (a.place + 4)) 0 = rw (← n) c.before.before.before.child_at-one.ensures in
+    let two : c.before.before.child_at-two.result ≡ child_at a.text.now a.place (num_at 2 a.text.now (a.place + 4)) 1 = rw (← n) c.before.before.child_at-two.ensures in
+    let three : c.before.child_at-three.result ≡ child_at a.text.now a.place (num_at 2 a.text.now (a.place + 4)) 2 = rw (← n) c.before.child_at-three.ensures in
+    let four : c.child_at-four.result ≡ child_at a.text.now a.place (num_at 2 a.text.now (a.place + 4)) 3 = rw (← n) c.child_at-four.ensures in
+    let left : c.before.before.before.before.byte-left.result ≡ num_at 2 a.text.now (a.place + 2) = c.before.before.before.before.byte-left.ensures in
+    simp (le-ltb _ _ d.before.if-n-lt6.false, eq-eqb _ _ e) (λ i. Rule (Production (left i) (n i) (record { one = one i; two = two i; three = three i; four = four i })))
 
 pub production_frame_spec : {M : Type 1} → statement M
 unfolding production_of
@@ -39,7 +39,7 @@ production_frame_spec =
     tie.close
     (tie.spec
     (λ c κs. search rules)
-    (λ c. simp (lt-ltb _ _ c.before.if1.true) c.wrong.ensures)
+    (λ c. simp (lt-ltb _ _ c.before.if-n-lt6.true) c.wrong.ensures)
     (λ c. search rules)
     (λ c κs. search rules)
     (λ c. search rules)

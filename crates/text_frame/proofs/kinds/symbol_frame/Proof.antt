@@ -11,9 +11,9 @@ symbol_frame_spec =
     tie.close
     (tie.spec
     (λ c κs. search rules)
-    (λ c. simp (ne_eqb _ _ c.before.if1.true) c.wrong.ensures)
+    (λ c. simp (ne_eqb _ _ c.before.if-n-ne6.true) c.wrong.ensures)
     (λ c. search rules)
     (λ c κs. search rules)
     (λ c. search rules)
     (λ c κs. search rules)
-    (λ c. simp (eq-eqb _ _ c.before.before.if1.false) (rw (← c.before.byte.ensures, ← c.byte2.ensures))))
+    (λ c. simp (eq-eqb _ _ c.before.before.if-n-ne6.false) (rw (← c.before.byte-synthesized.ensures, ← c.byte-inherited.ensures))))

@@ -16,13 +16,13 @@ returns c =
     let w = z.before.before in
     let d = w.before.before.before.before in
     let a = d.args in
-    let v : (w.before.before.wide.result * 4294967296 + w.before.wide2.result) * 65536 + w.wide3.result ≡ (a.circles * 4294967296 + a.evaluations) * 65536 + a.changed = λ i. (w.before.before.wide.ensures i * 4294967296 + w.before.wide2.ensures i) * 65536 + w.wide3.ensures i in (
-      omega (arith, z.put-line.ensures.0),
-      z.put-line.ensures.1 ∙ ap (λ (x : ℕ). sets a.buffer.now a.place (lineText (field 2 0x12 ∷ field 16 x ∷ []))) v ∙ ap (sets a.buffer.now a.place) (done-line a.circles a.evaluations a.changed (omega arith) (omega arith)),
+    let v : (w.before.before.wide.result * 4294967296 + w.before.wide-2.result) * 65536 + w.wide-3.result ≡ (a.circles * 4294967296 + a.evaluations) * 65536 + a.changed = λ i. (w.before.before.wide.ensures i * 4294967296 + w.before.wide-2.ensures i) * 65536 + w.wide-3.ensures i in (
+      omega (arith, z.put_line.ensures.0),
+      z.put_line.ensures.1 ∙ ap (λ (x : ℕ). sets a.buffer.now a.place (lineText (field 2 0x12 ∷ field 16 x ∷ []))) v ∙ ap (sets a.buffer.now a.place) (done-line a.circles a.evaluations a.changed (omega arith) (omega arith)),
     )
 
-pub put-done-spec : {M : Type 1} → statement M
-put-done-spec =
+pub put_done_spec : {M : Type 1} → statement M
+put_done_spec =
     tie.close
     (tie.spec
     (λ c κs. search rules)

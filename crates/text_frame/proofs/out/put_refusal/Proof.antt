@@ -17,13 +17,13 @@ returns c =
     let w = z.before.before in
     let d = w.before.before.before.before in
     let a = d.args in
-    let v : w.before.wide.result * 4294967296 + w.wide2.result ≡ number_of a.refusal * 4294967296 + a.line = λ i. (w.before.wide.ensures ∙ w.before.before.number.ensures) i * 4294967296 + w.wide2.ensures i in (
-      omega (arith, z.put-line.ensures.0),
-      z.put-line.ensures.1 ∙ ap (λ (x : ℕ). sets a.buffer.now a.place (lineText (field 2 0x1f ∷ field 10 x ∷ []))) v ∙ ap (sets a.buffer.now a.place) (refusal-line (number_of a.refusal) a.line (omega arith)),
+    let v : w.before.wide.result * 4294967296 + w.wide-2.result ≡ number_of a.refusal * 4294967296 + a.line = λ i. (w.before.wide.ensures ∙ w.before.before.number.ensures) i * 4294967296 + w.wide-2.ensures i in (
+      omega (arith, z.put_line.ensures.0),
+      z.put_line.ensures.1 ∙ ap (λ (x : ℕ). sets a.buffer.now a.place (lineText (field 2 0x1f ∷ field 10 x ∷ []))) v ∙ ap (sets a.buffer.now a.place) (refusal-line (number_of a.refusal) a.line (omega arith)),
     )
 
-pub put-refusal-spec : {M : Type 1} → statement M
-put-refusal-spec =
+pub put_refusal_spec : {M : Type 1} → statement M
+put_refusal_spec =
     tie.close
     (tie.spec
     (λ c κs. search rules)

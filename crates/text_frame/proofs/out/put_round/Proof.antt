@@ -16,13 +16,13 @@ returns c =
     let w = z.before.before in
     let d = w.before.before.before.before.before in
     let a = d.args in
-    let v : ((w.before.before.before.wide.result * 16777216 + w.before.before.wide2.result) * 65536 + w.before.wide3.result) * 256 + w.wide4.result ≡ ((a.least * 16777216 + a.round) * 65536 + a.size) * 256 + a.closed = λ i. ((w.before.before.before.wide.ensures i * 16777216 + w.before.before.wide2.ensures i) * 65536 + w.before.wide3.ensures i) * 256 + w.wide4.ensures i in (
-      omega (arith, z.put-line.ensures.0),
-      z.put-line.ensures.1 ∙ ap (λ (x : ℕ). sets a.buffer.now a.place (lineText (field 2 0x11 ∷ field 16 x ∷ []))) v ∙ ap (sets a.buffer.now a.place) (round-line a.least a.round a.size a.closed (omega arith) (omega arith) (omega arith)),
+    let v : ((w.before.before.before.wide.result * 16777216 + w.before.before.wide-2.result) * 65536 + w.before.wide-3.result) * 256 + w.wide-4.result ≡ ((a.least * 16777216 + a.round) * 65536 + a.size) * 256 + a.closed = λ i. ((w.before.before.before.wide.ensures i * 16777216 + w.before.before.wide-2.ensures i) * 65536 + w.before.wide-3.ensures i) * 256 + w.wide-4.ensures i in (
+      omega (arith, z.put_line.ensures.0),
+      z.put_line.ensures.1 ∙ ap (λ (x : ℕ). sets a.buffer.now a.place (lineText (field 2 0x11 ∷ field 16 x ∷ []))) v ∙ ap (sets a.buffer.now a.place) (round-line a.least a.round a.size a.closed (omega arith) (omega arith) (omega arith)),
     )
 
-pub put-round-spec : {M : Type 1} → statement M
-put-round-spec =
+pub put_round_spec : {M : Type 1} → statement M
+put_round_spec =
     tie.close
     (tie.spec
     (λ c κs. search rules)

@@ -16,13 +16,13 @@ returns c =
     let w = z.before.before in
     let d = w.before.before in
     let a = d.args in
-    let v : 1245184 + w.wide.result ≡ 1245184 + a.instance = λ i. 1245184 + w.wide.ensures i in (
-      omega (arith, z.put-line.ensures.0),
-      z.put-line.ensures.1 ∙ ap (λ (x : ℕ). sets a.buffer.now a.place (lineText (field 6 x ∷ field 16 a.value ∷ []))) v ∙ ap (sets a.buffer.now a.place) (set_line a.instance a.value (omega arith)),
+    let v : 1245184 + w.wide-head.result ≡ 1245184 + a.instance = λ i. 1245184 + w.wide-head.ensures i in (
+      omega (arith, z.put_line.ensures.0),
+      z.put_line.ensures.1 ∙ ap (λ (x : ℕ). sets a.buffer.now a.place (lineText (field 6 x ∷ field 16 a.value ∷ []))) v ∙ ap (sets a.buffer.now a.place) (set_line a.instance a.value (omega arith)),
     )
 
-pub put-set-spec : {M : Type 1} → statement M
-put-set-spec =
+pub put_set_spec : {M : Type 1} → statement M
+put_set_spec =
     tie.close
     (tie.spec
     (λ c κs. search rules)

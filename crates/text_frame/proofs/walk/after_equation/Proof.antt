@@ -9,13 +9,13 @@ use borrow.Author.Rules.{rules}
 use Rattle.text_frame.proofs.walk.after_equation.Statement.{statement}
 use Rattle.text_frame.proofs.walk.after_equation.Tie as tie
 
-returns_2 : tie.Need-returns-2
+returns_2 : tie.Need-returns
 unfolding next_of
 returns_2 c =
     let d = c.before.before in
     let a = d.before.args in
     let n : suc (child_count a.table.now a.p) - (a.q + 1) ≡ child_count a.table.now a.p - a.q = omega arith in
-    rw (← d.defined_at.ensures, le-ltb _ _ c.before.if1.false) (c.seek.ensures ∙ ap (λ (m : ℕ). seek_from m a.table.now a.p (a.q + 1)) n)
+    rw (← d.defined_at.ensures, le-ltb _ _ c.before.if-k-defined_at.false) (c.seek.ensures ∙ ap (λ (m : ℕ). seek_from m a.table.now a.p (a.q + 1)) n)
 
 pub after_equation_spec : {M : Type 1} → statement M
 unfolding next_of
@@ -25,7 +25,7 @@ after_equation_spec =
     (λ c. search rules)
     (λ c κs. search rules)
     (λ c. search rules)
-    (λ c. rw (← c.before.defined_at.ensures, lt-ltb _ _ c.if1.true))
+    (λ c. rw (← c.before.defined_at.ensures, lt-ltb _ _ c.if-k-defined_at.true))
     (λ c. search rules)
     (λ c κs. search rules)
     returns_2)

@@ -11,5 +11,5 @@ after_part_spec =
     (λ c. search rules)
     (λ c κs. search rules)
     (λ c. search rules)
-    (λ c. rw (← c.before.production-count.ensures, lt-ltb _ _ c.if1.true))
-    (λ c. rw (← c.before.production-count.ensures, le-ltb _ _ c.if1.false)))
+    (λ c. rw (← c.before.production_count.ensures, lt-ltb _ _ c.if-p-production_count.true))
+    (λ c. rw (← c.before.production_count.ensures, le-ltb _ _ c.if-p-production_count.false)))

@@ -13,5 +13,5 @@ after_symbol_spec =
     (λ c. search rules)
     (λ c κs. search rules)
     (λ c. search rules)
-    (λ c. rw (← c.before.symbol-count.ensures, lt-ltb _ _ c.if1.true))
-    (λ c. rw (← c.before.symbol-count.ensures, le-ltb _ _ c.if1.false)))
+    (λ c. rw (← c.before.symbol_count.ensures, lt-ltb _ _ c.if-s-symbol_count.true))
+    (λ c. rw (← c.before.symbol_count.ensures, le-ltb _ _ c.if-s-symbol_count.false)))

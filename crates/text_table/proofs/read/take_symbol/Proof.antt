@@ -18,13 +18,13 @@ use borrow.Author.Rules.{rules}
 use Rattle.text_table.proofs.read.take_symbol.Statement.{statement}
 use Rattle.text_table.proofs.read.take_symbol.Tie as tie
 
-returns : tie.Need-returns
+returns : tie.Need-returns-in_default
 returns c =
     let a = c.before.before.args in
-    let e = other_rule a.rule (0 ∷ 2 ∷ 3 ∷ []) 1 (miss (0 ∷ 2 ∷ 3 ∷ []) 1 tt) c.before.match.keys2 in
+    let e = other_rule a.rule (0 ∷ 2 ∷ 3 ∷ []) 1 (miss (0 ∷ 2 ∷ 3 ∷ []) 1 tt) c.before.in-Symbol.keys2 in
     (c.misplaced.ensures ∙ other_taken a.table.now (AtSymbol a.s) (Rule a.rule) a.line e, other_words a.table.now (AtSymbol a.s) (Rule a.rule) a.line e)
 
-returns_2 : tie.Need-returns-2
+returns_2 : tie.Need-returns-in-Sound
 returns_2 c =
     let a = c.before.before.before.before.before.before.before.before.before.before.args in
     let g = c.before.before.before.before.before.before.before.before.rule.given in
@@ -32,10 +32,10 @@ returns_2 c =
     let u : List ℕ = set a.table.now (1 + a.s) c.before.before.before.before.before.before.join.result in
     let d : u ≡ words_after a.table.now (AtSymbol a.s) (Rule a.rule) = rw e (symbol_words a.table.now a.s g.0.0 g.0.1.0 c.before.before.before.before.before.before.join.result c.before.before.before.before.before.before.join.ensures) in
     let y : eqb (type_of (Rule a.rule)) (type_at (AtSymbol a.s)) ≡ true = rw e in
-    let z = sound_zero c.before.before.enum_told.given.1 c.before.before.before.before.judge-symbol.ensures in
+    let z = sound_zero c.before.before.enum_told.given.1 c.before.before.before.before.judge_symbol.ensures in
     (ap Next c.next_of_lem.ensures ∙ sound_taken a.table.now (AtSymbol a.s) (Rule a.rule) a.line u y d z, d)
 
-returns_3 : tie.Need-returns-3
+returns_3 : tie.Need-returns-in-Refused
 returns_3 c =
     let a = c.before.before.before.before.before.before.before.before.before.args in
     let g = c.before.before.before.before.before.before.before.rule.given in
@@ -43,7 +43,7 @@ returns_3 c =
     let u : List ℕ = set a.table.now (1 + a.s) c.before.before.before.before.before.join.result in
     let d : u ≡ words_after a.table.now (AtSymbol a.s) (Rule a.rule) = rw e (symbol_words a.table.now a.s g.0.0 g.0.1.0 c.before.before.before.before.before.join.result c.before.before.before.before.before.join.ensures) in
     let y : eqb (type_of (Rule a.rule)) (type_at (AtSymbol a.s)) ≡ true = rw e in
-    let n = refused_number c.before.r.given.1 c.before.before.before.judge-symbol.ensures in
+    let n = refused_number c.before.r.given.1 c.before.before.before.judge_symbol.ensures in
     (stopped_taken a.table.now (AtSymbol a.s) (Rule a.rule) a.line u c.before.r.given.0.0 y d n, d)
 
 pub take_symbol_spec : {M : Type 1} → statement M

@@ -12,20 +12,20 @@ use borrow.Author.Rules.{rules}
 use Rattle.text_table.proofs.write.put_equation.Statement.{statement}
 use Rattle.text_table.proofs.write.put_equation.Tie as tie
 
-add_head : tie.Need-overflow-add-head
+add_head : tie.Need-overflow_add-head
 unfolding op_number
 add_head c =
     let a = c.before.before.args in
     let k : head_at a.table.now a.rule / 4294967296 ≤ 9 = c.before.before.requires.1.0 in
-    omega (arith, c.head_at.ensures)
+    omega (arith, c.head_at-head.ensures)
 
 returns : tie.Need-returns
 returns c =
     let z = c.before.before in
     let a = c.before.before.before.before.before.before.before.args in (
-      omega (arith, z.put-line.ensures.0),
-      z.put-line.ensures.1
-          ∙ (λ i. sets a.buffer.now a.place (line_text (field 12 (4398046511104 + c.before.before.before.before.before.head_at.ensures i) ∷ field 16 (c.before.before.before.constant-at.ensures i) ∷ [])))
+      omega (arith, z.put_line.ensures.0),
+      z.put_line.ensures.1
+          ∙ (λ i. sets a.buffer.now a.place (line_text (field 12 (4398046511104 + c.before.before.before.before.before.head_at-head.ensures i) ∷ field 16 (c.before.before.before.constant_at.ensures i) ∷ [])))
           ∙ ap (sets a.buffer.now a.place) (equation_shown a.table.now a.rule c.before.before.before.before.before.before.before.requires.1.0),
     )
 

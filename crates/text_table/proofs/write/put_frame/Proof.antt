@@ -11,37 +11,37 @@ use borrow.Author.Rules.{rules}
 use Rattle.text_table.proofs.write.put_frame.Statement.{statement}
 use Rattle.text_table.proofs.write.put_frame.Tie as tie
 
-returns : tie.Need-returns
+returns : tie.Need-returns-in-AtHeader
 unfolding text_at shown equation_text rule_of
 returns c =
     let z = c.before.before in
     let a = c.before.before.before.before.before.before.before.args in
     let e = c.before.before.before.before.enum_told.given in
-    rw e.1 (z.put-header.ensures.0 ∙ ap (λ (n : ℕ). a.place + n) (sym (header_length a.table.now)), z.put-header.ensures.1)
+    rw e.1 (z.put_header.ensures.0 ∙ ap (λ (n : ℕ). a.place + n) (sym (header_length a.table.now)), z.put_header.ensures.1)
 
-returns_2 : tie.Need-returns-2
+returns_2 : tie.Need-returns-in-AtSymbol
 unfolding text_at shown equation_text rule_of
 returns_2 c =
     let z = c.before.before in
     let a = c.before.before.before.before.before.before.before.before.args in
     let e = c.before.before.before.before.before.expected.given in
-    rw e.1 (z.put-symbol.ensures.0 ∙ ap (λ (n : ℕ). a.place + n) (sym (symbol_length a.table.now e.0.0)), z.put-symbol.ensures.1)
+    rw e.1 (z.put_symbol.ensures.0 ∙ ap (λ (n : ℕ). a.place + n) (sym (symbol_length a.table.now e.0.0)), z.put_symbol.ensures.1)
 
-returns_3 : tie.Need-returns-3
+returns_3 : tie.Need-returns-in-AtProduction
 unfolding text_at shown equation_text rule_of
 returns_3 c =
     let z = c.before.before in
     let a = c.before.before.before.before.before.before.before.before.args in
     let e = c.before.before.before.before.before.expected2.given in
-    rw e.1 (z.put-production.ensures.0 ∙ ap (λ (n : ℕ). a.place + n) (sym (production_length a.table.now e.0.0 (rw e.1 at c.before.before.before.before.before.before.before.before.requires).0.1.arity)), z.put-production.ensures.1)
+    rw e.1 (z.put_production.ensures.0 ∙ ap (λ (n : ℕ). a.place + n) (sym (production_length a.table.now e.0.0 (rw e.1 at c.before.before.before.before.before.before.before.before.requires).0.1.arity)), z.put_production.ensures.1)
 
-returns_4 : tie.Need-returns-4
+returns_4 : tie.Need-returns-in-AtEquation
 unfolding text_at shown equation_text rule_of
 returns_4 c =
     let z = c.before.before in
     let a = c.before.before.before.before.before.before.before.before.args in
     let e = c.before.before.before.before.before.expected3.given in
-    rw e.1 (z.put-equation.ensures.0 ∙ ap (λ (n : ℕ). a.place + n) (sym (equation_length a.table.now e.0.0 e.0.1.0 e.0.1.1.0)), z.put-equation.ensures.1)
+    rw e.1 (z.put_equation.ensures.0 ∙ ap (λ (n : ℕ). a.place + n) (sym (equation_length a.table.now e.0.0 e.0.1.0 e.0.1.1.0)), z.put_equation.ensures.1)
 
 pub put_frame_spec : {M : Type 1} → statement M
 unfolding text_at rule_of
@@ -69,4 +69,4 @@ put_frame_spec =
     returns_3
     (λ c. search rules)
     returns_4
-    (λ c. rw c.enum-told2.given.1 (omega arith, refl)))
+    (λ c. rw c.enum_told-in-Ended-1.given.1 (omega arith, refl)))

@@ -15,9 +15,9 @@ returns c =
     let z = c.before.before in
     let a = c.before.before.before.before.before.before.before.before.args in
     let n = c.before.before.before.before.before.before in (
-      omega (arith, z.put-line.ensures.0, n.child-count.ensures),
-      z.put-line.ensures.1 ∙ ap (λ (x : ℕ). sets a.buffer.now a.place (line_text (field 2 3 ∷ field (4 + 2 * n.child-count.result) x ∷ []))) c.before.before.before.before.reached.ensures
-          ∙ ap (sets a.buffer.now a.place) (production_shown a.table.now a.p n.child-count.result (sym n.child-count.ensures) (omega (arith, n.child-count.ensures))),
+      omega (arith, z.put_line.ensures.0, n.child_count-count.ensures),
+      z.put_line.ensures.1 ∙ ap (λ (x : ℕ). sets a.buffer.now a.place (line_text (field 2 3 ∷ field (4 + 2 * n.child_count-count.result) x ∷ []))) c.before.before.before.before.reached-tail.ensures
+          ∙ ap (sets a.buffer.now a.place) (production_shown a.table.now a.p n.child_count-count.result (sym n.child_count-count.ensures) (omega (arith, n.child_count-count.ensures))),
     )
 
 pub put_production_spec : {M : Type 1} → statement M

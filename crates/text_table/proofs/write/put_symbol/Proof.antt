@@ -11,7 +11,7 @@ returns : tie.Need-returns
 returns c =
     let z = c.before.before in
     let a = c.before.before.before.before.before.before.args in
-    (omega (arith, z.put-line.ensures.0), z.put-line.ensures.1 ∙ ap (sets a.buffer.now a.place) (symbol_shown a.table.now a.s))
+    (omega (arith, z.put_line.ensures.0), z.put_line.ensures.1 ∙ ap (sets a.buffer.now a.place) (symbol_shown a.table.now a.s))
 
 pub put_symbol_spec : {M : Type 1} → statement M
 put_symbol_spec =

@@ -14,26 +14,26 @@ use borrow.Author.Rules.{rules}
 use Rattle.text_table.proofs.write.put_table.Statement.{statement}
 use Rattle.text_table.proofs.write.put_table.Tie as tie
 
-abbrev invariant_loop : tie.invariant_loop
+abbrev invariant_loop : tie.invariant-loop-x
 invariant_loop table buffer₀ x₀ place₀ buffer x place =
     Valid table x × ((length buffer ≡ length buffer₀) × ((sets buffer₀ 0 (table_text table) ≡ sets buffer place (rest_text table x)) × (place + length (rest_text table x) ≡ length (table_text table))))
 
-abbrev decreases_loop : tie.decreases_loop
+abbrev decreases_loop : tie.decreases-loop-x
 decreases_loop table buffer₀ x₀ place₀ buffer x place = length (rest_of table x)
 
-put_frame_requires : tie.Need-put-frame-requires invariant_loop decreases_loop
+put_frame_requires : tie.Need-put_frame-place-requires invariant_loop decreases_loop
 put_frame_requires c κs =
-    let l = c.before.before.before.loop in
+    let l = c.before.before.before.loop-x in
     let s = c.before.before.before.before.before in
     let t = s.args.table.now in
     (ready_of t s.requires.0 l.x l.invariant.0, (shows_of t s.requires.0 l.x l.invariant.0, omega (arith, s.requires.1, l.invariant.1.0, l.invariant.1.1.1, rest_length t l.x l.invariant.0)))
 
-loop_again : tie.Need-loop-preserved invariant_loop decreases_loop
+loop_again : tie.Need-loop-x-preserved invariant_loop decreases_loop
 loop_again c =
-    let l = c.before.before.before.before.before.before.before.loop in
+    let l = c.before.before.before.before.before.before.before.loop-x in
     let s = c.before.before.before.before.before.before.before.before.before in
     let t = s.args.table.now in
-    let f = c.before.before.before.put-frame in
+    let f = c.before.before.before.put_frame-place in
     rw c.next_of_lem.ensures (
       still_valid t s.requires.0 l.x l.invariant.0,
       (
@@ -47,9 +47,9 @@ loop_again c =
 
 returns : tie.Need-returns invariant_loop decreases_loop
 returns c =
-    let l = c.before.before.loop in
+    let l = c.before.before.loop-x in
     let t = c.before.before.before.before.args.table.now in
-    let e : rest_text t l.x ≡ [] = rest_none t l.x (sym c.before.is-on.ensures ∙ c.if1.false) in
+    let e : rest_text t l.x ≡ [] = rest_none t l.x (sym c.before.is_on.ensures ∙ c.loop-x-test.false) in
     let z : length (rest_text t l.x) ≡ 0 = ap length e in
     (omega (arith, l.invariant.1.1.1), sym (l.invariant.1.1.0 ∙ ap (sets l.buffer l.place) e))
 
@@ -62,8 +62,8 @@ put_table_spec =
     (λ c. (tt, (refl, (ap (sets c.before.args.buffer.now 0) (sym (rest_all c.before.args.table.now)), omega (arith, ap length (rest_all c.before.args.table.now))))))
     (λ c κs. search rules)
     put_frame_requires
-    (λ c κs. ready_of c.before.before.before.before.before.before.before.before.args.table.now c.before.before.before.before.before.before.before.before.requires.0 c.before.before.before.before.before.before.loop.x c.before.before.before.before.before.before.loop.invariant.0)
-    (λ c. rw c.next_of_lem.ensures (rest_less c.before.before.before.before.before.before.before.before.before.args.table.now c.before.before.before.before.before.before.before.loop.x c.before.before.before.before.before.before.before.loop.invariant.0 (sym c.before.before.before.before.before.before.is-on.ensures ∙ c.before.before.before.before.before.if1.true)))
+    (λ c κs. ready_of c.before.before.before.before.before.before.before.before.args.table.now c.before.before.before.before.before.before.before.before.requires.0 c.before.before.before.before.before.before.loop-x.x c.before.before.before.before.before.before.loop-x.invariant.0)
+    (λ c. rw c.next_of_lem.ensures (rest_less c.before.before.before.before.before.before.before.before.before.args.table.now c.before.before.before.before.before.before.before.loop-x.x c.before.before.before.before.before.before.before.loop-x.invariant.0 (sym c.before.before.before.before.before.before.is_on.ensures ∙ c.before.before.before.before.before.loop-x-test.true)))
     loop_again
-    (λ c. c.before.before.loop.invariant.1.0)
+    (λ c. c.before.before.loop-x.invariant.1.0)
     returns)

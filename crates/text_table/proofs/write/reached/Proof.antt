@@ -8,7 +8,7 @@ use Rattle.text_table.specs.Inner.Putting.{reached_of}
 use Rattle.text_table.proofs.write.reached.Statement.{statement}
 use Rattle.text_table.proofs.write.reached.Tie as tie
 
-returns_5 : tie.Need-returns-5
+returns_5 : tie.Need-returns-in_default
 unfolding reached_of
 returns_5 c =
     let a = c.before.args in
@@ -22,8 +22,8 @@ unfolding reached_of
 reached_spec =
     tie.close
     (tie.spec
-    (λ c. let e : c.before.args.count ≡ 0 = c.match.keys1 in rw e)
-    (λ c. let e : c.before.args.count ≡ 1 = c.match.keys2 in rw e)
-    (λ c. let e : c.before.args.count ≡ 2 = c.match.keys3 in rw e)
-    (λ c. let e : c.before.args.count ≡ 3 = c.match.keys4 in rw e)
+    (λ c. let e : c.before.args.count ≡ 0 = c.in-0.keys1 in rw e)
+    (λ c. let e : c.before.args.count ≡ 1 = c.in-0.keys2 in rw e)
+    (λ c. let e : c.before.args.count ≡ 2 = c.in-0.keys3 in rw e)
+    (λ c. let e : c.before.args.count ≡ 3 = c.in-0.keys4 in rw e)
     returns_5)

@@ -8,15 +8,15 @@ use Rattle.text_tree.proofs.Copying.{rest, copy_all, copy_turn, copy_none}
 use Rattle.text_tree.proofs.grow.copy_owns.Statement.{statement}
 use Rattle.text_tree.proofs.grow.copy_owns.Tie as tie
 
-abbrev invariant_loop : tie.invariant_loop
+abbrev invariant_loop : tie.invariant-loop-i
 invariant_loop from count to₀ i₀ to i = (i ≤ count) × ((length to ≡ length to₀) × (sets to₀ 0 (take count from) ≡ sets to i (rest count i from)))
 
-abbrev decreases_loop : tie.decreases_loop
+abbrev decreases_loop : tie.decreases-loop-i
 decreases_loop from count to₀ i₀ to i = count - i
 
-loop_again : tie.Need-loop-preserved invariant_loop decreases_loop
+loop_again : tie.Need-loop-i-preserved invariant_loop decreases_loop
 loop_again c =
-    let l = c.before.before.loop in
+    let l = c.before.before.loop-i in
     let a = c.before.before.before.args in
     let v = get_or a.from.now l.i 0 in
     (omega arith, (length-set l.to l.i v ∙ l.invariant.1.0, l.invariant.1.1 ∙ copy_turn l.to a.from.now a.count l.i (omega arith) (omega (arith, c.before.before.before.requires.0))))
@@ -35,5 +35,5 @@ copy_owns_spec =
     (λ c. omega arith)
     (λ c. omega arith)
     loop_again
-    (λ c. c.before.loop.invariant.1.0)
-    (λ c. let l = c.before.loop in let a = c.before.before.args in sym (l.invariant.1.1 ∙ copy_none l.to a.from.now a.count l.i (omega arith))))
+    (λ c. c.before.loop-i.invariant.1.0)
+    (λ c. let l = c.before.loop-i in let a = c.before.before.args in sym (l.invariant.1.1 ∙ copy_none l.to a.from.now a.count l.i (omega arith))))

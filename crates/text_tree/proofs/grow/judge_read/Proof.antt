@@ -16,14 +16,14 @@ judge_read_spec =
     (λ c. search rules)
     (λ c.
     let a = c.before.before.before.before.before.before.args in
-    by_room a.table.now a.productions.now a.count a.room a.room-owns (omega arith) (sound_zero c.before.enum_told.given.1 c.before.before.before.judge-held.ensures) (omega arith))
+    by_room a.table.now a.productions.now a.count a.room a.room-owns (omega arith) (sound_zero c.before.enum_told.given.1 c.before.before.before.judge_held.ensures) (omega arith))
     (λ c.
     let a = c.before.before.before.before.before.before.before.args in
-    by_owns a.table.now a.productions.now a.count a.room a.room-owns (omega arith) (sound_zero c.before.before.enum_told.given.1 c.before.before.before.before.judge-held.ensures) (omega arith) (omega arith))
+    by_owns a.table.now a.productions.now a.count a.room a.room-owns (omega arith) (sound_zero c.before.before.enum_told.given.1 c.before.before.before.before.judge_held.ensures) (omega arith) (omega arith))
     (λ c. search rules)
     (λ c.
     let a = c.before.before.before.before.before.before.before.args in
-    by_none a.table.now a.productions.now a.count a.room a.room-owns (omega arith) (sound_zero c.before.before.enum_told.given.1 c.before.before.before.before.judge-held.ensures) (omega arith) (omega arith))
+    by_none a.table.now a.productions.now a.count a.room a.room-owns (omega arith) (sound_zero c.before.before.enum_told.given.1 c.before.before.before.before.judge_held.ensures) (omega arith) (omega arith))
     (λ c.
     let a = c.before.before.before.before.before.before.args in
-    by_shape a.table.now a.productions.now a.count a.room a.room-owns (omega arith) c.before.r.given.0.0 (refused_number c.before.r.given.1 c.before.before.before.judge-held.ensures)))
+    by_shape a.table.now a.productions.now a.count a.room a.room-owns (omega arith) c.before.r.given.0.0 (refused_number c.before.r.given.1 c.before.before.before.judge_held.ensures)))

@@ -9,7 +9,7 @@ pub keep_own_spec : {M : Type 1} → statement M
 keep_own_spec =
     tie.close
     (tie.spec
-    (λ c. sym (set_out c.before.args.owns.now c.before.args.i c.before.args.own c.if1.true))
+    (λ c. sym (set_out c.before.args.owns.now c.before.args.i c.before.args.own c.if-owns-i.true))
     (λ c. search rules)
     (λ c. search rules)
     (λ c. search rules)

@@ -9,7 +9,7 @@ pub keep_production_spec : {M : Type 1} → statement M
 keep_production_spec =
     tie.close
     (tie.spec
-    (λ c. sym (set_out c.before.args.productions.now c.before.args.i c.before.args.production c.if1.true))
+    (λ c. sym (set_out c.before.args.productions.now c.before.args.i c.before.args.production c.if-productions-i.true))
     (λ c. search rules)
     (λ c. search rules)
     (λ c. search rules))

@@ -9,5 +9,5 @@ no_node_spec =
     tie.close
     (tie.spec
     (λ c. search rules)
-    (λ c. no_refusal c.before.args.frame c.before.args.line c.match.keys2)
+    (λ c. no_refusal c.before.args.frame c.before.args.line c.in-Refused.keys2)
     (λ c. rw c.before.frame.given.1))

@@ -15,22 +15,22 @@ read_lines_spec =
     (λ c κs. search rules)
     (λ c.
     let a = c.before.before.before.before.before.before.args in
-    let n = c.before.before.next_at in
-    load_stray a.text.now a.place a.line n.result n.ensures (no_change n.result.frame a.line _ c.before.match.keys2) c.no_node.result c.no_node.ensures a.productions.now a.owns.now a.productions.now a.owns.now)
+    let n = c.before.before.next_at-step in
+    load_stray a.text.now a.place a.line n.result n.ensures (no_change n.result.frame a.line _ c.before.in-Change.keys2) c.no_node.result c.no_node.ensures a.productions.now a.owns.now a.productions.now a.owns.now)
     (λ c. search rules)
     (λ c κs. search rules)
     (λ c.
     let a = c.before.before.before.before.before.before.before.before.before.args in
-    let n = c.before.before.before.before.before.next_at in
+    let n = c.before.before.before.before.before.next_at-step in
     let g = c.before.before.before.frame.given in
-    load_stray a.text.now a.place a.line n.result n.ensures (rw g.1 (no_load g.0.0 a.line _ c.before.match2.keys2)) c.no-node2.result (rw g.1 c.no-node2.ensures) a.productions.now a.owns.now a.productions.now a.owns.now)
+    load_stray a.text.now a.place a.line n.result n.ensures (rw g.1 (no_load g.0.0 a.line _ c.before.in-Load.keys2)) c.no_node-in_default-change.result (rw g.1 c.no_node-in_default-change.ensures) a.productions.now a.owns.now a.productions.now a.owns.now)
     (λ c. search rules)
     (λ c κs. search rules)
     (λ c. search rules)
     (λ c. search rules)
     (λ c.
     let a = c.before.before.before.before.before.before.before.before.before.before.before.before.before.before.before.before.before.args in
-    let n = c.before.before.before.before.before.before.before.before.before.before.before.before.before.next_at in
+    let n = c.before.before.before.before.before.before.before.before.before.before.before.before.before.next_at-step in
     let f = c.before.before.before.before.before.before.before.before.before.before.before.frame.given in
     let g = c.before.before.before.before.before.before.before.before.change.given in
-    rw (load_lines a.text.now a.place a.line n.result n.ensures g.0.0 (f.1 ∙ ap Change g.1)) c.before.before.before.before.read-nodes.ensures))
+    rw (load_lines a.text.now a.place a.line n.result n.ensures g.0.0 (f.1 ∙ ap Change g.1)) c.before.before.before.before.read_nodes.ensures))

@@ -20,7 +20,7 @@ read_tree_spec =
     (λ c.
     let a = c.before.before.before.before.before.before.before.before.before.before.before.before.before.args in
     rw (table_sound a.table.now a.text.now a.place a.line (length a.productions.now) (length a.owns.now) (sound_zero c.before.before.before.before.before.before.before.enum_told.given.1 c.before.before.before.before.before.before.before.before.before.judge_table_lem.ensures))
-    c.before.before.before.before.read-judged.ensures)
+    c.before.before.before.before.read_judged.ensures)
     (λ c.
     let a = c.before.before.before.before.before.before.before.args in
     rw (table_refused a.table.now a.text.now a.place a.line (length a.productions.now) (length a.owns.now) c.before.r.given.0.0 (refused_number c.before.r.given.1 c.before.before.before.judge_table_lem.ensures))

@@ -15,9 +15,9 @@ returns c =
     let z = c.before.before in
     let a = c.before.before.before.before.before.before.args in
     let w = c.before.before.before.before in (
-      omega (arith, z.put-line.ensures.0),
-      z.put-line.ensures.1 ∙ ap (λ (x : ℕ). sets a.buffer.now a.place (line_text (field 4 (1280 + x) ∷ field 16 a.own ∷ []))) w.wide.ensures.0
-          ∙ ap (sets a.buffer.now a.place) (node_shown a.production a.own (omega (arith, w.wide.ensures))),
+      omega (arith, z.put_line.ensures.0),
+      z.put_line.ensures.1 ∙ ap (λ (x : ℕ). sets a.buffer.now a.place (line_text (field 4 (1280 + x) ∷ field 16 a.own ∷ []))) w.wide-head.ensures.0
+          ∙ ap (sets a.buffer.now a.place) (node_shown a.production a.own (omega (arith, w.wide-head.ensures))),
     )
 
 pub put_node_spec : {M : Type 1} → statement M

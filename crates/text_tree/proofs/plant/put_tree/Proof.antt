@@ -17,23 +17,23 @@ use borrow.Author.Rules.{rules}
 use Rattle.text_tree.proofs.plant.put_tree.Statement.{statement}
 use Rattle.text_tree.proofs.plant.put_tree.Tie as tie
 
-abbrev invariant_loop : tie.invariant_loop
+abbrev invariant_loop : tie.invariant-loop-i
 invariant_loop productions owns buffer₀ place₀ i₀ buffer place i =
     (i ≤ length productions) × ((length buffer ≡ length buffer₀) × ((place ≡ 7 + 21 * i) × (sets buffer₀ 7 (nodes_text productions owns) ≡ sets buffer place (nodes_text (drop i productions) (drop i owns)))))
 
-abbrev decreases_loop : tie.decreases_loop
+abbrev decreases_loop : tie.decreases-loop-i
 decreases_loop productions owns buffer₀ place₀ i₀ buffer place i = length productions - i
 
-put_node_requires : tie.Need-put-node-requires invariant_loop decreases_loop
+put_node_requires : tie.Need-put_node-place-requires invariant_loop decreases_loop
 put_node_requires c κs =
-    let l = c.before.before.before.before.loop in
-    omega (arith, c.before.before.before.before.before.before.before.before.before.before.before.before.requires, l.invariant.1.0, l.invariant.1.1.0, ap length c.before.before.before.before.before.before.before.put-line.ensures.1 ∙ length-sets c.before.before.before.before.before.before.before.before.before.before.before.before.args.buffer.now 0 (line_text (field 2 6 ∷ field 4 (length c.before.before.before.before.before.before.before.before.before.before.before.before.args.productions.now) ∷ [])))
+    let l = c.before.before.before.before.loop-i in
+    omega (arith, c.before.before.before.before.before.before.before.before.before.before.before.before.requires, l.invariant.1.0, l.invariant.1.1.0, ap length c.before.before.before.before.before.before.before.put_line-place.ensures.1 ∙ length-sets c.before.before.before.before.before.before.before.before.before.before.before.before.args.buffer.now 0 (line_text (field 2 6 ∷ field 4 (length c.before.before.before.before.before.before.before.before.before.before.before.before.args.productions.now) ∷ [])))
 
-loop_again : tie.Need-loop-preserved invariant_loop decreases_loop
+loop_again : tie.Need-loop-i-preserved invariant_loop decreases_loop
 loop_again c =
-    let l = c.before.before.before.before.before.before.before.loop in
+    let l = c.before.before.before.before.before.before.before.loop-i in
     let a = c.before.before.before.before.before.before.before.before.before.before.before.before.before.before.before.args in
-    let f = c.before.before.put-node in
+    let f = c.before.before.put_node-place in
     let ps = a.productions.now in
     let os = a.owns.now in
     let n : List ℕ = text_of (Node (get_or ps l.i 0) (get_or os l.i 0)) in
@@ -54,13 +54,13 @@ loop_again c =
 
 returns : tie.Need-returns invariant_loop decreases_loop
 returns c =
-    let l = c.before.loop in
+    let l = c.before.loop-i in
     let a = c.before.before.before.before.before.before.before.before.before.args in
     let ps = a.productions.now in
     let os = a.owns.now in
     let e : l.i ≡ length ps = omega arith in
     let n : nodes_text (drop l.i ps) (drop l.i os) ≡ [] = ap (λ (m : ℕ). nodes_text (drop m ps) (drop l.i os)) e ∙ nodes_none ps (drop l.i os) in
-    let b : c.before.before.before.before.put-line.new.0 ≡ sets a.buffer.now 0 (text_of (Change (Load (length ps)))) = c.before.before.before.before.put-line.ensures.1 ∙ ap (sets a.buffer.now 0) (load_shown (length ps)) in
+    let b : c.before.before.before.before.put_line-place.new.buffer ≡ sets a.buffer.now 0 (text_of (Change (Load (length ps)))) = c.before.before.before.before.put_line-place.ensures.1 ∙ ap (sets a.buffer.now 0) (load_shown (length ps)) in
     (omega (arith, l.invariant.1.1.0), sym (tree_stored ps os a.buffer.now ∙ ap (λ (s : List ℕ). sets s 7 (nodes_text ps os)) (sym b) ∙ l.invariant.1.1.1 ∙ ap (sets l.buffer l.place) n))
 
 pub put_tree_spec : {M : Type 1} → statement M
@@ -70,7 +70,7 @@ put_tree_spec =
     invariant_loop
     decreases_loop
     (λ c κs. omega arith)
-    (λ c. (omega arith, (refl, (omega (arith, c.before.before.put-line.ensures.0), ap (λ (n : ℕ). sets c.before.before.put-line.new.0 n (nodes_text c.before.before.before.before.before.before.before.args.productions.now c.before.before.before.before.before.before.before.args.owns.now)) (sym c.before.before.put-line.ensures.0)))))
+    (λ c. (omega arith, (refl, (omega (arith, c.before.before.put_line-place.ensures.0), ap (λ (n : ℕ). sets c.before.before.put_line-place.new.buffer n (nodes_text c.before.before.before.before.before.before.before.args.productions.now c.before.before.before.before.before.before.before.args.owns.now)) (sym c.before.before.put_line-place.ensures.0)))))
     (λ c. omega arith)
     (λ c. search rules)
     (λ c. omega arith)
@@ -78,5 +78,5 @@ put_tree_spec =
     (λ c. omega arith)
     (λ c. omega arith)
     loop_again
-    (λ c. c.before.loop.invariant.1.0 ∙ ap length c.before.before.before.before.put-line.ensures.1 ∙ length-sets c.before.before.before.before.before.before.before.before.before.args.buffer.now 0 (line_text (field 2 6 ∷ field 4 (length c.before.before.before.before.before.before.before.before.before.args.productions.now) ∷ [])))
+    (λ c. c.before.loop-i.invariant.1.0 ∙ ap length c.before.before.before.before.put_line-place.ensures.1 ∙ length-sets c.before.before.before.before.before.before.before.before.before.args.buffer.now 0 (line_text (field 2 6 ∷ field 4 (length c.before.before.before.before.before.before.before.before.before.args.productions.now) ∷ [])))
     returns)

@@ -10,37 +10,37 @@ use borrow.Author.Rules.{rules}
 use Rattle.update_judge.proofs.points.judge_cut.Statement.{statement}
 use Rattle.update_judge.proofs.points.judge_cut.Tie as tie
 
-add_end : tie.Need-overflow-add-end
+add_end : tie.Need-overflow_add-end
 add_end c = search rules
 
-sub_part : tie.Need-overflow-sub-part
+sub_part : tie.Need-slice_bounds-part-count
 sub_part c = search rules
 
-part_part_start : tie.Need-slice-bounds-part-start
+part_part_start : tie.Need-slice_bounds-part-start
 part_part_start c = search rules
 
-part_part_end : tie.Need-slice-bounds-part-end
+part_part_end : tie.Need-slice_bounds-part-end
 part_part_end c = search rules
 
-shared_slice_read_index : tie.Need-shared-slice-read-index
+shared_slice_read_index : tie.Need-bounds-tree-node
 shared_slice_read_index c = search rules
 
 index_requires : tie.Need-index-requires
 index_requires c κs = search rules
 
-left_of_requires : tie.Need-left-of-requires
+left_of_requires : tie.Need-left_of-requires
 left_of_requires c κs = omega (arith, c.before.before.before.before.before.requires.0.productions, c.index.ensures.0, c.before.before.before.before.before.requires.1.0.below c.before.before.before.before.before.args.cut.node c.before.before.before.before.before.requires.1.1.0)
 
-judge_nodes_requires : tie.Need-judge-nodes-requires
+judge_nodes_requires : tie.Need-judge_nodes-requires
 judge_nodes_requires c κs = search rules
 
 returns : tie.Need-returns
 returns c =
     let a = c.before.before.before.before.before.before.before.args in
     let e : a.at + a.cut.count - a.at ≡ a.cut.count = omega arith in
-    c.judge-nodes.ensures
-    ∙ ap (λ k. judge_nodes a.table.now (take k (drop a.at a.new.now)) (c.before.left-of.result ∷ [])) e
-    ∙ ap (λ s. judge_nodes a.table.now (take a.cut.count (drop a.at a.new.now)) (s ∷ [])) (c.before.left-of.ensures ∙ ap (left_of a.table.now) c.before.before.index.ensures.0)
+    c.judge_nodes.ensures
+    ∙ ap (λ k. judge_nodes a.table.now (take k (drop a.at a.new.now)) (c.before.left_of.result ∷ [])) e
+    ∙ ap (λ s. judge_nodes a.table.now (take a.cut.count (drop a.at a.new.now)) (s ∷ [])) (c.before.left_of.ensures ∙ ap (left_of a.table.now) c.before.before.index.ensures.0)
 
 pub judge_cut_spec : {M : Type 1} → statement M
 judge_cut_spec =

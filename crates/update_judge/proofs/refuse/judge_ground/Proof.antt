@@ -13,11 +13,11 @@ judge_ground_spec =
     tie.close
     (tie.spec
     (λ c κs. search rules)
-    (λ c. rw (sym c.before.is_short.ensures ∙ c.if1.true))
+    (λ c. rw (sym c.before.is_short.ensures ∙ c.if-is_short.true))
     (λ c κs. search rules)
     (λ c. search rules)
     (λ c κs. search rules)
-    (λ c. rw (sym c.before.before.before.before.before.before.is_short.ensures ∙ c.before.before.before.before.before.if1.false, sound_zero c.before.before.enum_told.given.1 c.before.before.before.before.judge_table_lem.ensures, sym c.before.is_beyond.ensures ∙ c.if2.true))
+    (λ c. rw (sym c.before.before.before.before.before.before.is_short.ensures ∙ c.before.before.before.before.before.if-is_short.false, sound_zero c.before.before.enum_told.given.1 c.before.before.before.before.judge_table_lem.ensures, sym c.before.is_beyond.ensures ∙ c.if-is_beyond.true))
     (λ c. search rules)
-    (λ c. rw (sym c.before.before.before.before.before.before.is_short.ensures ∙ c.before.before.before.before.before.if1.false, sound_zero c.before.before.enum_told.given.1 c.before.before.before.before.judge_table_lem.ensures, sym c.before.is_beyond.ensures ∙ c.if2.false))
-    (λ c. rw (sym c.before.before.before.before.before.is_short.ensures ∙ c.before.before.before.before.if1.false) (or_stops _ _ c.before.r.given.1 c.before.before.before.judge_table_lem.ensures)))
+    (λ c. rw (sym c.before.before.before.before.before.before.is_short.ensures ∙ c.before.before.before.before.before.if-is_short.false, sound_zero c.before.before.enum_told.given.1 c.before.before.before.before.judge_table_lem.ensures, sym c.before.is_beyond.ensures ∙ c.if-is_beyond.false))
+    (λ c. rw (sym c.before.before.before.before.before.is_short.ensures ∙ c.before.before.before.before.if-is_short.false) (or_stops _ _ c.before.r.given.1 c.before.before.before.judge_table_lem.ensures)))

@@ -20,5 +20,5 @@ judge_holding_spec =
     let n = s.args.«record».nodes in
     let e = length-take-le n s.args.held.now s.requires.1.0 in
     let f = length-take-le n s.args.held_owns.now s.requires.1.1 in
-    rw c.before.if1.true (c.judge-held.ensures ∙ tree_judged s.args.table.now (take n s.args.held.now) (take n s.args.held_owns.now) 0 (e ∙ sym f) ∙ sym (or_zero _)))
-    (λ c. rw c.if1.false))
+    rw c.before.if-record.true (c.judge_held.ensures ∙ tree_judged s.args.table.now (take n s.args.held.now) (take n s.args.held_owns.now) 0 (e ∙ sym f) ∙ sym (or_zero _)))
+    (λ c. rw c.if-record.false))

@@ -14,8 +14,8 @@ judge_load_spec =
     tie.close
     (tie.spec
     (λ c κs. search rules)
-    (λ c. rw (sym c.before.is_open.ensures ∙ c.if1.true))
-    (λ c. let a = c.before.before.before.before.before.args in load_size a.table.now a.«record» a.productions.now a.owns.now (sym c.before.before.is_open.ensures ∙ c.before.if1.false) (omega arith))
-    (λ c. let a = c.before.before.before.before.before.before.args in load_unequal a.table.now a.«record» a.productions.now a.owns.now (sym c.before.before.before.is_open.ensures ∙ c.before.before.if1.false) (omega arith) (λ e. omega arith))
+    (λ c. rw (sym c.before.is_open.ensures ∙ c.if-is_open.true))
+    (λ c. let a = c.before.before.before.before.before.args in load_size a.table.now a.«record» a.productions.now a.owns.now (sym c.before.before.is_open.ensures ∙ c.before.if-is_open.false) (omega arith))
+    (λ c. let a = c.before.before.before.before.before.before.args in load_unequal a.table.now a.«record» a.productions.now a.owns.now (sym c.before.before.before.is_open.ensures ∙ c.before.before.if-is_open.false) (omega arith) (λ e. omega arith))
     (λ c κs. limits _ c.before.before.before.before.before.before.requires)
-    (λ c. let a = c.before.before.before.before.before.before.before.args in c.judge-nodes.ensures ∙ load_judged a.table.now a.«record» a.productions.now a.owns.now (sym c.before.before.before.before.is_open.ensures ∙ c.before.before.before.if1.false) (omega arith) (omega arith)))
+    (λ c. let a = c.before.before.before.before.before.before.before.args in c.judge_nodes.ensures ∙ load_judged a.table.now a.«record» a.productions.now a.owns.now (sym c.before.before.before.before.is_open.ensures ∙ c.before.before.before.if-is_open.false) (omega arith) (omega arith)))

@@ -19,14 +19,14 @@ memory s = lent s.args.held.now s.args.held_owns.now s.args.sets.now s.args.earl
 abbrev rest : tie.Start → Order
 rest s = busy_check s.args.«record» ∷ held_order s.args.table.now s.args.held.now s.args.held_owns.now s.args.«record»
 
-abbrev start : tie.After-enum-told → tie.Start
+abbrev start : tie.In-Sound → tie.Start
 start c = c.before.before.before.before.before.before.before
 
-ground : (c : tie.After-enum-told) → Grounded (start c).args.table.now (memory (start c)) (start c).args.«record»
-ground c = grounded (start c).args.table.now (memory (start c)) (start c).args.«record» (sound_zero c.enum_told.given.1 c.before.before.judge-ground.ensures)
+ground : (c : tie.In-Sound) → Grounded (start c).args.table.now (memory (start c)) (start c).args.«record»
+ground c = grounded (start c).args.table.now (memory (start c)) (start c).args.«record» (sound_zero c.enum_told.given.1 c.before.before.judge_ground.ensures)
 
-passed : (c : tie.After-enum-told) → refusal_by (look_order (start c).args.table.now (memory (start c)) (start c).args.«record») ≡ refusal_by (rest (start c))
-passed c = past (ground_order (start c).args.table.now (memory (start c)) (start c).args.«record») (rest (start c)) (sound_zero c.enum_told.given.1 c.before.before.judge-ground.ensures)
+passed : (c : tie.In-Sound) → refusal_by (look_order (start c).args.table.now (memory (start c)) (start c).args.«record») ≡ refusal_by (rest (start c))
+passed c = past (ground_order (start c).args.table.now (memory (start c)) (start c).args.«record») (rest (start c)) (sound_zero c.enum_told.given.1 c.before.before.judge_ground.ensures)
 
 pub judge_look_spec : {M : Type 1} → statement M
 unfolding refusal_by
@@ -36,8 +36,8 @@ judge_look_spec =
     (λ c κs. search rules)
     (λ c. search rules)
     (λ c κs. search rules)
-    (λ c. rw (passed c.before.before) (rw (sym c.before.is_open.ensures ∙ c.if1.true)))
+    (λ c. rw (passed c.before.before) (rw (sym c.before.is_open.ensures ∙ c.if-is_open.true)))
     (λ c κs. let g = ground c.before.before in (g.table, (omega arith, omega arith)))
     (λ c. search rules)
-    (λ c. rw (passed c.before.before.before) (rw (sym c.before.before.is_open.ensures ∙ c.before.if1.false) c.judge-holding.ensures))
-    (λ c. let s = c.before.before.before.before.before.before.before.before in stopped (ground_order s.args.table.now (memory s) s.args.«record») (rest s) c.before.r.given.0.0 (refused_number c.before.r.given.1 c.before.before.before.judge-ground.ensures)))
+    (λ c. rw (passed c.before.before.before) (rw (sym c.before.before.is_open.ensures ∙ c.before.if-is_open.false) c.judge_holding.ensures))
+    (λ c. let s = c.before.before.before.before.before.before.before.before in stopped (ground_order s.args.table.now (memory s) s.args.«record») (rest s) c.before.r.given.0.0 (refused_number c.before.r.given.1 c.before.before.before.judge_ground.ensures)))

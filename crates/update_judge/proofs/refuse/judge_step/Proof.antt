@@ -12,11 +12,11 @@ use Rattle.update_judge.proofs.refuse.judge_step.Tie as tie
 abbrev memory : tie.Start → Memory
 memory s = lent s.args.held.now s.args.held_owns.now s.args.sets.now s.args.earlier.now
 
-abbrev start : tie.After-enum-told → tie.Start
+abbrev start : tie.In-Sound → tie.Start
 start c = c.before.before.before.before.before.before.before
 
-ground : (c : tie.After-enum-told) → Grounded (start c).args.table.now (memory (start c)) (start c).args.«record»
-ground c = grounded (start c).args.table.now (memory (start c)) (start c).args.«record» (sound_zero c.enum_told.given.1 c.before.before.judge-ground.ensures)
+ground : (c : tie.In-Sound) → Grounded (start c).args.table.now (memory (start c)) (start c).args.«record»
+ground c = grounded (start c).args.table.now (memory (start c)) (start c).args.«record» (sound_zero c.enum_told.given.1 c.before.before.judge_ground.ensures)
 
 pub judge_step_spec : {M : Type 1} → statement M
 judge_step_spec =
@@ -26,5 +26,5 @@ judge_step_spec =
     (λ c. search rules)
     (λ c κs. let g = ground (c) in (g.table, (omega (arith, g.room.productions, g.within.nodes), omega (arith, g.room.owns, g.within.nodes))))
     (λ c. search rules)
-    (λ c. let s = c.before.before.before.before.before.before.before.before in c.judge-going.ensures ∙ sym (step_past s.args.table.now (memory s) s.args.«record» (ground c.before)))
-    (λ c. let s = c.before.before.before.before.before.before.before.before in step_stopped s.args.table.now (memory s) s.args.«record» c.before.r.given.0.0 (refused_number c.before.r.given.1 c.before.before.before.judge-ground.ensures)))
+    (λ c. let s = c.before.before.before.before.before.before.before.before in c.judge_going.ensures ∙ sym (step_past s.args.table.now (memory s) s.args.«record» (ground c.before)))
+    (λ c. let s = c.before.before.before.before.before.before.before.before in step_stopped s.args.table.now (memory s) s.args.«record» c.before.r.given.0.0 (refused_number c.before.r.given.1 c.before.before.before.judge_ground.ensures)))

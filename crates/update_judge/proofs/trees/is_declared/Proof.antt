@@ -15,12 +15,12 @@ production : (c : tie.After-index) → c.index.result < production_count (start 
 production c =
     let s = start c in
     subst (λ v. v < production_count s.args.table.now) (sym c.index.ensures.0)
-    (node_number s.args.table.now s.args.held.now s.args.nodes s.pre.1.1 s.pre.1.0 (s.args.instance / 8) (omega arith))
+    (node_number s.args.table.now s.args.held.now s.args.nodes s.requires.1.1 s.requires.1.0 (s.args.instance / 8) (omega arith))
 
-symbol : (c : tie.After-left-of) → c.left-of.result < symbol_count (start c.before).args.table.now
+symbol : (c : tie.After-left_of) → c.left_of.result < symbol_count (start c.before).args.table.now
 symbol c =
     let s = start c.before in
-    subst (λ v. v < symbol_count s.args.table.now) (sym c.left-of.ensures) (s.pre.0.small c.before.index.result 0 (production c.before) zero-le)
+    subst (λ v. v < symbol_count s.args.table.now) (sym c.left_of.ensures) (s.requires.0.small c.before.index.result 0 (production c.before) zero-le)
 
 pub is_declared_spec : {M : Type 1} → statement M
 is_declared_spec =
@@ -34,5 +34,5 @@ is_declared_spec =
     (λ c.
     let s = c.before.before.before.before.before.before in
     c.has_set_lem.ensures
-    ∙ ap (λ v. has_set s.args.table.now v (s.args.instance % 8)) (c.before.left-of.ensures ∙ ap (left_of s.args.table.now) c.before.before.index.ensures.0)
+    ∙ ap (λ v. has_set s.args.table.now v (s.args.instance % 8)) (c.before.left_of.ensures ∙ ap (left_of s.args.table.now) c.before.before.index.ensures.0)
     ∙ declared_in s.args.table.now s.args.held.now s.args.nodes s.requires.1.1 s.args.instance (omega arith)))

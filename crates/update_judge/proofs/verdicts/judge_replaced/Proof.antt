@@ -30,55 +30,55 @@ numbers s = fit_order s.args.table.now s.args.tree.now (length s.args.tree.now) 
 abbrev after : tie.Start → List ℕ
 after s = nodes_row s.args.table.now s.args.tree.now (ps s)
 
-abbrev start : tie.After-enum-told → tie.Start
+abbrev start : tie.In-Sound → tie.Start
 start c = c.before.before.before.before.before.before
 
-none : (c : tie.After-enum-told) → refusal_by (numbers (start c)) ≡ 0
-none c = sound_zero c.enum_told.given.1 c.before.before.judge-row.ensures
+none : (c : tie.In-Sound) → refusal_by (numbers (start c)) ≡ 0
+none c = sound_zero c.enum_told.given.1 c.before.before.judge_row.ensures
 
 -- 21 looks at no own set
-splicing : (c : tie.After-enum-told) → Splicing (start c).args.table.now (start c).args.tree.now (start c).args.tree.now (start c).args.points (start c).args.cuts (start c).args.new.now (start c).args.new-owns.now
-splicing c = let s = start c in splices s.args.table.now s.args.tree.now s.args.points s.args.cuts s.args.new.now s.args.new-owns.now s.pre (none c) s.args.tree.now refl
+splicing : (c : tie.In-Sound) → Splicing (start c).args.table.now (start c).args.tree.now (start c).args.tree.now (start c).args.points (start c).args.cuts (start c).args.new.now (start c).args.new-owns.now
+splicing c = let s = start c in splices s.args.table.now s.args.tree.now s.args.points s.args.cuts s.args.new.now s.args.new-owns.now s.requires (none c) s.args.tree.now refl
 
-fits : (c : tie.After-enum-told) → Fitting (start c).args.cuts (length (start c).args.tree.now) (length (start c).args.new.now)
+fits : (c : tie.In-Sound) → Fitting (start c).args.cuts (length (start c).args.tree.now) (length (start c).args.new.now)
 fits c = splicing_fits (splicing c)
 
-built : (c : tie.After-enum-told) → spliced_by (start c).args.cuts (start c).args.new.now (start c).args.tree.now ≡ after (start c)
+built : (c : tie.In-Sound) → spliced_by (start c).args.cuts (start c).args.new.now (start c).args.tree.now ≡ after (start c)
 built c =
     let s = start c in
     splicing_nodes (splicing c)
-    ∙ ap (nodes_row s.args.table.now s.args.tree.now) (sym (handed_cut s.args.table.now s.args.tree.now s.args.points s.args.cuts s.args.new.now s.args.new-owns.now s.pre (none c)))
+    ∙ ap (nodes_row s.args.table.now s.args.tree.now) (sym (handed_cut s.args.table.now s.args.tree.now s.args.points s.args.cuts s.args.new.now s.args.new-owns.now s.requires (none c)))
 
-holds : (c : tie.After-enum-told) → Held (start c).args.table.now (spliced_by (start c).args.cuts (start c).args.new.now (start c).args.tree.now)
+holds : (c : tie.In-Sound) → Held (start c).args.table.now (spliced_by (start c).args.cuts (start c).args.new.now (start c).args.tree.now)
 holds c =
     let s = start c in
     subst (Held s.args.table.now) (sym (built c))
     (record {
-      judged = s.pre.table;
-      sound = left_sound s.args.table.now s.args.tree.now s.args.points s.args.cuts s.args.new.now s.args.new-owns.now s.pre (none c);
-      few = left_few s.args.table.now s.args.tree.now s.args.points s.args.cuts s.args.new.now s.args.new-owns.now s.pre (none c);
+      judged = s.requires.table;
+      sound = left_sound s.args.table.now s.args.tree.now s.args.points s.args.cuts s.args.new.now s.args.new-owns.now s.requires (none c);
+      few = left_few s.args.table.now s.args.tree.now s.args.points s.args.cuts s.args.new.now s.args.new-owns.now s.requires (none c);
     })
 
-judge_row_requires : tie.Need-judge-row-requires
+judge_row_requires : tie.Need-judge_row-requires
 judge_row_requires c κs = search rules
 
-enum_told : tie.Need-enum-told
+enum_told : tie.Need-enum_told-1
 enum_told c = search rules
 
-waives_then_requires : tie.Need-waives-then-requires
+waives_then_requires : tie.Need-waives_then-requires
 waives_then_requires c κs = (fits (c), holds (c))
 
-returns : tie.Need-returns
-returns c = let s = c.before.before.before.before.before.before.before.before in last_waived (numbers s) s.args.table.now (after s) (none c.before.before) (sym (ap (waives s.args.table.now) (built c.before.before)) ∙ sym c.before.waives-then.ensures ∙ c.if1.true)
+returns : tie.Need-returns-then-waives_then
+returns c = let s = c.before.before.before.before.before.before.before.before in last_waived (numbers s) s.args.table.now (after s) (none c.before.before) (sym (ap (waives s.args.table.now) (built c.before.before)) ∙ sym c.before.waives_then.ensures ∙ c.if-waives_then.true)
 
-enum_known_r : tie.Need-enum-known-r
+enum_known_r : tie.Need-enum_known-r
 enum_known_r c = search rules
 
-returns_2 : tie.Need-returns-2
-returns_2 c = let s = c.before.before.before.before.before.before.before.before in last_free (numbers s) s.args.table.now (after s) (none c.before.before) (sym (ap (waives s.args.table.now) (built c.before.before)) ∙ sym c.before.waives-then.ensures ∙ c.if1.false)
+returns_2 : tie.Need-returns-else-waives_then
+returns_2 c = let s = c.before.before.before.before.before.before.before.before in last_free (numbers s) s.args.table.now (after s) (none c.before.before) (sym (ap (waives s.args.table.now) (built c.before.before)) ∙ sym c.before.waives_then.ensures ∙ c.if-waives_then.false)
 
-returns_3 : tie.Need-returns-3
-returns_3 c = let s = c.before.before.before.before.before.before.before in stopped (numbers s) (waiver_order s.args.table.now (after s)) c.before.r.given.0.0 (refused_number c.before.r.given.1 c.before.before.before.judge-row.ensures)
+returns_3 : tie.Need-returns-in-Refused
+returns_3 c = let s = c.before.before.before.before.before.before.before in stopped (numbers s) (waiver_order s.args.table.now (after s)) c.before.r.given.0.0 (refused_number c.before.r.given.1 c.before.before.before.judge_row.ensures)
 
 pub judge_replaced_spec : {M : Type 1} → statement M
 judge_replaced_spec =

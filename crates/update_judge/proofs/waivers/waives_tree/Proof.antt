@@ -12,11 +12,11 @@ use borrow.Author.Rules.{rules}
 use Rattle.update_judge.proofs.waivers.waives_tree.Statement.{statement}
 use Rattle.update_judge.proofs.waivers.waives_tree.Tie as tie
 
-returns_2 : tie.Need-returns-2
+returns_2 : tie.Need-returns
 returns_2 c =
     let s = c.before.before.before in
     let t = s.args.table.now in
-    sym (plain_free t s.args.tree.now s.requires.judged s.requires.sound (none_nine t s.requires.judged (sym c.before.has-nine.ensures ∙ c.if1.false)))
+    sym (plain_free t s.args.tree.now s.requires.judged s.requires.sound (none_nine t s.requires.judged (sym c.before.has_nine.ensures ∙ c.if-has_nine.false)))
 
 pub waives_tree_spec : {M : Type 1} → statement M
 waives_tree_spec =
@@ -26,7 +26,7 @@ waives_tree_spec =
     (λ c. search rules)
     (λ c κs. search rules)
     (λ c. search rules)
-    (λ c. let s = c.before.before.before.before.before.before.before in sym (ap length (written s.args.tree.now _ _ (omega (arith, s.requires.few)) c.before.before.copy-nodes.ensures)))
-    (λ c κs. let s = c.before.before.before.before.before.before.before in subst (λ l. Held s.args.table.now l) (sym (written s.args.tree.now _ _ (omega (arith, s.requires.few)) c.before.before.copy-nodes.ensures)) s.requires)
-    (λ c. let s = c.before.before.before.before.before.before.before.before in c.waives_wired.ensures ∙ ap (waives s.args.table.now) (written s.args.tree.now _ _ (omega (arith, s.requires.few)) c.before.before.before.copy-nodes.ensures))
+    (λ c. let s = c.before.before.before.before.before.before.before in sym (ap length (written s.args.tree.now _ _ (omega (arith, s.requires.few)) c.before.before.copy_nodes.ensures)))
+    (λ c κs. let s = c.before.before.before.before.before.before.before in subst (λ l. Held s.args.table.now l) (sym (written s.args.tree.now _ _ (omega (arith, s.requires.few)) c.before.before.copy_nodes.ensures)) s.requires)
+    (λ c. let s = c.before.before.before.before.before.before.before.before in c.waives_wired.ensures ∙ ap (waives s.args.table.now) (written s.args.tree.now _ _ (omega (arith, s.requires.few)) c.before.before.before.copy_nodes.ensures))
     returns_2)

@@ -7,10 +7,10 @@ use Rattle.update_place.proofs.Pastes.{Pasting, pasting, pasting_next, pasted}
 use Rattle.update_place.proofs.copying.clear_nodes.Statement.{statement}
 use Rattle.update_place.proofs.copying.clear_nodes.Tie as tie
 
-abbrev invariant_loop : tie.invariant_loop
+abbrev invariant_loop : tie.invariant-loop-i
 invariant_loop held₀ at count i₀ held i = Pasting held₀ at (replicate count 0) count i held
 
-abbrev decreases_loop : tie.decreases_loop
+abbrev decreases_loop : tie.decreases-loop-i
 decreases_loop held₀ at count i₀ held i = count - i
 
 pub clear_nodes_spec : {M : Type 1} → statement M
@@ -24,6 +24,6 @@ clear_nodes_spec =
     (λ c. omega arith)
     (λ c. omega arith)
     (λ c. omega arith)
-    (λ c. let s = c.before.before in let l = c.before.loop in let d = s.args.held.now in pasting_next d s.args.at (replicate s.args.count 0) s.args.count l.i l.held s.requires (omega (arith, length-replicate {A = ℕ} s.args.count 0)) l.invariant 0 (sym (get_or-replicate s.args.count l.i 0 0 c.loop-test.true)) c.loop-test.true)
-    (λ c. c.before.loop.invariant.long)
-    (λ c. let s = c.before.before in let l = c.before.loop in let d = s.args.held.now in pasted d s.args.at (replicate s.args.count 0) s.args.count l.i l.held s.requires (omega (arith, length-replicate {A = ℕ} s.args.count 0)) l.invariant (omega arith)))
+    (λ c. let s = c.before.before in let l = c.before.loop-i in let d = s.args.held.now in pasting_next d s.args.at (replicate s.args.count 0) s.args.count l.i l.held s.requires (omega (arith, length-replicate {A = ℕ} s.args.count 0)) l.invariant 0 (sym (get_or-replicate s.args.count l.i 0 0 c.loop-i-test.true)) c.loop-i-test.true)
+    (λ c. c.before.loop-i.invariant.long)
+    (λ c. let s = c.before.before in let l = c.before.loop-i in let d = s.args.held.now in pasted d s.args.at (replicate s.args.count 0) s.args.count l.i l.held s.requires (omega (arith, length-replicate {A = ℕ} s.args.count 0)) l.invariant (omega arith)))

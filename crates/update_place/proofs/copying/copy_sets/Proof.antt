@@ -8,10 +8,10 @@ use Rattle.update_place.proofs.Pastes.{Pasting, pasting, pasting_next, pasted}
 use Rattle.update_place.proofs.copying.copy_sets.Statement.{statement}
 use Rattle.update_place.proofs.copying.copy_sets.Tie as tie
 
-abbrev invariant_loop : tie.invariant_loop
+abbrev invariant_loop : tie.invariant-loop-i
 invariant_loop out₀ to sets at count i₀ out i = Pasting out₀ to (drop at sets) count i out
 
-abbrev decreases_loop : tie.decreases_loop
+abbrev decreases_loop : tie.decreases-loop-i
 decreases_loop out₀ to sets at count i₀ out i = count - i
 
 pub copy_sets_spec : {M : Type 1} → statement M
@@ -31,14 +31,14 @@ copy_sets_spec =
     (λ c. omega arith)
     (λ c.
     let s = c.before.before.before in
-    let l = c.before.before.loop in
+    let l = c.before.before.loop-i in
     let a = s.args in
     let h = a.sets.now in
-    pasting_next a.out.now a.to (drop a.at h) a.count l.i l.out s.requires.0 (omega (arith, length-drop a.at h)) l.invariant _ (sym (get_or-drop a.at h l.i 0)) c.before.loop-test.true)
-    (λ c. c.before.loop.invariant.long)
+    pasting_next a.out.now a.to (drop a.at h) a.count l.i l.out s.requires.0 (omega (arith, length-drop a.at h)) l.invariant _ (sym (get_or-drop a.at h l.i 0)) c.before.loop-i-test.true)
+    (λ c. c.before.loop-i.invariant.long)
     (λ c.
     let s = c.before.before in
-    let l = c.before.loop in
+    let l = c.before.loop-i in
     let a = s.args in
     let h = a.sets.now in
     pasted a.out.now a.to (drop a.at h) a.count l.i l.out s.requires.0 (omega (arith, length-drop a.at h)) l.invariant (omega arith)))

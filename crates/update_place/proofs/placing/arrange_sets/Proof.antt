@@ -15,4 +15,4 @@ arrange_sets_spec =
     (λ c. search rules)
     (λ c.
     let a = c.before.before.before.before.before.before.before.before.before.before.before.args in
-    c.before.before.clear-undeclared.ensures ∙ ap (cleared a.table.now a.tree.now 0 (length a.tree.now)) c.before.before.before.before.before.before.carry-sets.ensures))
+    c.before.before.clear_undeclared.ensures ∙ ap (cleared a.table.now a.tree.now 0 (length a.tree.now)) c.before.before.before.before.before.before.carry_sets.ensures))

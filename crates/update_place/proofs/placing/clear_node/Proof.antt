@@ -14,22 +14,22 @@ abbrev start_w : tie.After-index → tie.Start
 start_w c = c.before.before.before.before
 
 production : (c : tie.After-index) → c.index.result < production_count (start_w c).args.table.now
-production c = let s = start_w c in subst (λ v. v < production_count s.args.table.now) (sym c.index.ensures.0) (s.pre.1.0.below s.args.at s.pre.1.1.0)
+production c = let s = start_w c in subst (λ v. v < production_count s.args.table.now) (sym c.index.ensures.0) (s.requires.1.0.below s.args.at s.requires.1.1.0)
 
-symbol : (c : tie.After-left-of) → c.left-of.result < symbol_count (start_w c.before).args.table.now
+symbol : (c : tie.After-left_of-symbol) → c.left_of-symbol.result < symbol_count (start_w c.before).args.table.now
 symbol c =
     let s = start_w c.before in
-    subst (λ v. v < symbol_count s.args.table.now) (sym c.left-of.ensures) (s.pre.0.small c.before.index.result 0 (production c.before) zero-le)
+    subst (λ v. v < symbol_count s.args.table.now) (sym c.left_of-symbol.ensures) (s.requires.0.small c.before.index.result 0 (production c.before) zero-le)
 
-synthesized_few : (c : tie.After-synthesized-of) → c.synthesized-of.result ≤ 4
+synthesized_few : (c : tie.After-synthesized_of-a) → c.synthesized_of-a.result ≤ 4
 synthesized_few c =
     let s = start_w c.before.before in
-    subst (λ v. v ≤ 4) (sym c.synthesized-of.ensures) (s.pre.0.synthesized c.before.left-of.result (symbol c.before))
+    subst (λ v. v ≤ 4) (sym c.synthesized_of-a.ensures) (s.requires.0.synthesized c.before.left_of-symbol.result (symbol c.before))
 
-inherited_few : (c : tie.After-inherited-of) → c.inherited-of.result ≤ 4
+inherited_few : (c : tie.After-inherited_of-b) → c.inherited_of-b.result ≤ 4
 inherited_few c =
     let s = start_w c.before.before.before in
-    subst (λ v. v ≤ 4) (sym c.inherited-of.ensures) (s.pre.0.inherited c.before.before.left-of.result (symbol c.before.before))
+    subst (λ v. v ≤ 4) (sym c.inherited_of-b.ensures) (s.requires.0.inherited c.before.before.left_of-symbol.result (symbol c.before.before))
 
 pub clear_node_spec : {M : Type 1} → statement M
 clear_node_spec =
@@ -57,10 +57,10 @@ clear_node_spec =
     let t = s.args.table.now in
     let ns = s.args.nodes.now in
     let at = s.args.at in
-    let a = y.synthesized-of.result in
-    let b = i.inherited-of.result in
-    let e = f.left-of.ensures ∙ ap (left_of t) f.before.index.ensures.0 in
-    c.before.before.clear-sets2.ensures
-    ∙ ap (λ l. paste l (8 * at + 4 + b) (replicate (4 - b) 0) (4 - b)) c.before.before.before.before.before.before.clear-sets.ensures
-    ∙ node_cleared t ns at s.args.sets.now a b (synthesized_few y) (inherited_few i) s.pre.1.1.0 (omega arith)
-    (y.synthesized-of.ensures ∙ ap (synthesized t) e) (i.inherited-of.ensures ∙ ap (inherited t) e)))
+    let a = y.synthesized_of-a.result in
+    let b = i.inherited_of-b.result in
+    let e = f.left_of-symbol.ensures ∙ ap (left_of t) f.before.index.ensures.0 in
+    c.before.before.clear_sets-2.ensures
+    ∙ ap (λ l. paste l (8 * at + 4 + b) (replicate (4 - b) 0) (4 - b)) c.before.before.before.before.before.before.clear_sets.ensures
+    ∙ node_cleared t ns at s.args.sets.now a b (synthesized_few y) (inherited_few i) s.requires.1.1.0 (omega arith)
+    (y.synthesized_of-a.ensures ∙ ap (synthesized t) e) (i.inherited_of-b.ensures ∙ ap (inherited t) e)))

@@ -15,5 +15,5 @@ fill_nodes_spec =
     (λ c. search rules)
     (λ c.
     let s = c.before.before.before.before.before.before.before.before.before.before in
-    let w = c.before.before.before.before.before.before.copy-nodes in
-    c.before.before.clear-nodes.ensures ∙ fill s.args.held.now s.args.new.now s.requires w.new.0 w.ensures))
+    let w = c.before.before.before.before.before.before.copy_nodes in
+    c.before.before.clear_nodes.ensures ∙ fill s.args.held.now s.args.new.now s.requires w.new.0 w.ensures))

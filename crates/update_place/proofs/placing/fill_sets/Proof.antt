@@ -15,5 +15,5 @@ fill_sets_spec =
     (λ c. search rules)
     (λ c.
     let s = c.before.before.before.before.before.before.before.before.before.before in
-    let w = c.before.before.before.before.before.before.copy-sets in
-    c.before.before.clear-sets.ensures ∙ fill s.args.sets.now s.args.new.now s.requires w.new.0 w.ensures))
+    let w = c.before.before.before.before.before.before.copy_sets in
+    c.before.before.clear_sets.ensures ∙ fill s.args.sets.now s.args.new.now s.requires w.new.0 w.ensures))

@@ -10,11 +10,11 @@ use Rattle.update_place.proofs.placing.place_nodes.Statement.{statement}
 use Rattle.update_place.proofs.placing.place_nodes.Tie as tie
 
 -- the front of the array
-back : (c : tie.After-splice-nodes) → let a = c.before.before.before.before.before.args in take c.splice-nodes.result c.splice-nodes.new.1.1.1.1.0 ≡ spliced_by a.cuts a.new.now (take a.nodes a.held.now)
-back c = ap (take c.splice-nodes.result) c.splice-nodes.ensures.1 ∙ take_filled _ _ c.splice-nodes.result (sym c.splice-nodes.ensures.0)
+back : (c : tie.After-splice_nodes-count) → let a = c.before.before.before.before.before.args in take c.splice_nodes-count.result c.splice_nodes-count.new.out ≡ spliced_by a.cuts a.new.now (take a.nodes a.held.now)
+back c = ap (take c.splice_nodes-count.result) c.splice_nodes-count.ensures.1 ∙ take_filled _ _ c.splice_nodes-count.result (sym c.splice_nodes-count.ensures.0)
 
-back_long : (c : tie.After-splice-nodes) → c.splice-nodes.result ≡ length (take c.splice-nodes.result c.splice-nodes.new.1.1.1.1.0)
-back_long c = c.splice-nodes.ensures.0 ∙ ap length (sym (back c))
+back_long : (c : tie.After-splice_nodes-count) → c.splice_nodes-count.result ≡ length (take c.splice_nodes-count.result c.splice_nodes-count.new.out)
+back_long c = c.splice_nodes-count.ensures.0 ∙ ap length (sym (back c))
 
 pub place_nodes_spec : {M : Type 1} → statement M
 place_nodes_spec =
@@ -24,9 +24,9 @@ place_nodes_spec =
     (λ c κs. search rules)
     (λ c. search rules)
     (λ c. back_long c.before.before.before)
-    (λ c κs. let x = c.before.before.before in let e = back_long x in let p = x.before.before.before.before.before.requires in omega (arith, x.splice-nodes.ensures.0))
+    (λ c κs. let x = c.before.before.before in let e = back_long x in let p = x.before.before.before.before.before.requires in omega (arith, x.splice_nodes-count.ensures.0))
     (λ c. search rules)
     (λ c.
     let x = c.before.before.before.before.before.before in
-    let e = c.before.before.fill-nodes.ensures ∙ ap (λ l. filled l x.before.before.before.before.before.args.held.now) (back x) in
-    (c.before.before.before.before.before.before.splice-nodes.ensures.0, e)))
+    let e = c.before.before.fill_nodes.ensures ∙ ap (λ l. filled l x.before.before.before.before.before.args.held.now) (back x) in
+    (c.before.before.before.before.before.before.splice_nodes-count.ensures.0, e)))

@@ -25,35 +25,35 @@ lending s = record {
 
 -- ---- the new tree
 
-abbrev start : tie.After-place-nodes → tie.Start
+abbrev start : tie.After-place_nodes-count → tie.Start
 start c = c.before.before.before.before.before.before.before.before
 
-few : (c : tie.After-place-nodes) → c.place-nodes.result ≤ 512
+few : (c : tie.After-place_nodes-count) → c.place_nodes-count.result ≤ 512
 few c =
     let s = start c in
     let a = s.args in
-    omega (arith, c.place-nodes.ensures.0, nodes_few a.table.now (memory s) a.nodes a.points a.cuts a.new.now a.new-owns.now (lending s))
+    omega (arith, c.place_nodes-count.ensures.0, nodes_few a.table.now (memory s) a.nodes a.points a.cuts a.new.now a.new-owns.now (lending s))
 
 -- its buffer is as long as it was
-long : (c : tie.After-place-nodes) → length c.place-nodes.new.1.1.1.0 ≡ length (start c).args.held.now
-long c = c.place-nodes.auto.1.1.1.0
+long : (c : tie.After-place_nodes-count) → length c.place_nodes-count.new.held ≡ length (start c).args.held.now
+long c = c.place_nodes-count.auto.held
 
-front_long : (c : tie.After-place-nodes) → length (take c.place-nodes.result c.place-nodes.new.1.1.1.0) ≡ c.place-nodes.result
-front_long c = length-take-le c.place-nodes.result c.place-nodes.new.1.1.1.0 (omega (arith, few c, long c, (lending (start c)).productions))
+front_long : (c : tie.After-place_nodes-count) → length (take c.place_nodes-count.result c.place_nodes-count.new.held) ≡ c.place_nodes-count.result
+front_long c = length-take-le c.place_nodes-count.result c.place_nodes-count.new.held (omega (arith, few c, long c, (lending (start c)).productions))
 
 -- ---- the sets arranged
 
-abbrev nodes_of : tie.After-arrange-sets → tie.After-place-nodes
+abbrev nodes_of : tie.After-arrange_sets → tie.After-place_nodes-count
 nodes_of c = c.before.before.before.before.before.before.before.before.before.before
 
-before_long : (c : tie.After-arrange-sets) → length c.arrange-sets.new.1.1.1.1.1.0 ≡ length (start (nodes_of c)).args.«earlier».now
-before_long c = c.arrange-sets.auto.1.1.1.1.1.0
+before_long : (c : tie.After-arrange_sets) → length c.arrange_sets.new.out ≡ length (start (nodes_of c)).args.«earlier».now
+before_long c = c.arrange_sets.auto.out
 
-slots_fit : (c : tie.After-arrange-sets) → 8 * (nodes_of c).place-nodes.result ≤ length c.arrange-sets.new.1.1.1.1.1.0
+slots_fit : (c : tie.After-arrange_sets) → 8 * (nodes_of c).place_nodes-count.result ≤ length c.arrange_sets.new.out
 slots_fit c = omega (arith, few (nodes_of c), before_long c, (lending (start (nodes_of c))).earlier)
 
-slots_long : (c : tie.After-arrange-sets) → length (take (8 * (nodes_of c).place-nodes.result) c.arrange-sets.new.1.1.1.1.1.0) ≡ 8 * (nodes_of c).place-nodes.result
-slots_long c = length-take-le (8 * (nodes_of c).place-nodes.result) c.arrange-sets.new.1.1.1.1.1.0 (slots_fit c)
+slots_long : (c : tie.After-arrange_sets) → length (take (8 * (nodes_of c).place_nodes-count.result) c.arrange_sets.new.out) ≡ 8 * (nodes_of c).place_nodes-count.result
+slots_long c = length-take-le (8 * (nodes_of c).place_nodes-count.result) c.arrange_sets.new.out (slots_fit c)
 
 pub place_row_spec : {M : Type 1} → statement M
 place_row_spec =
@@ -89,7 +89,7 @@ place_row_spec =
     let m = memory s in (
       table_limits a.table.now m a.nodes a.points a.cuts a.new.now a.new-owns.now l,
       (
-        tree_numbered a.table.now m a.nodes a.points a.cuts a.new.now a.new-owns.now l x.place-nodes.new.1.1.1.0 x.place-nodes.result x.place-nodes.ensures.1 x.place-nodes.ensures.0,
+        tree_numbered a.table.now m a.nodes a.points a.cuts a.new.now a.new-owns.now l x.place_nodes-count.new.held x.place_nodes-count.result x.place_nodes-count.ensures.1 x.place_nodes-count.ensures.0,
         (
           (omega (arith, l.few, l.sets), omega (arith, front_long x, few x, l.earlier)),
           (
@@ -113,10 +113,10 @@ place_row_spec =
     let s = start x in
     let a = s.args in
     let l = lending s in
-    let b = x.place-nodes.last.1.1.1.0 in
-    let k = x.place-nodes.result in
-    let e = x.place-nodes.ensures in (
+    let b = x.place_nodes-count.last.1.1.1.0 in
+    let k = x.place_nodes-count.result in
+    let e = x.place_nodes-count.ensures in (
       count_is a.table.now (memory s) a.nodes a.points a.cuts a.new.now a.new-owns.now l b k e.1 e.0,
       row_placed a.table.now (memory s) a.nodes a.points a.cuts a.new.now a.new-owns.now l b k e.1 e.0
-          y.arrange-sets.new.1.1.1.1.1.0 y.arrange-sets.ensures c.before.before.before.before.before.before.before.before.before.before.before.before.before.place-owns.new.1.1.1.0 c.before.before.fill-sets.new.0 c.before.before.before.before.before.before.before.before.before.before.before.before.before.place-owns.ensures c.before.before.fill-sets.ensures,
+          y.arrange_sets.new.out y.arrange_sets.ensures c.before.before.before.before.before.before.before.before.before.before.before.before.before.place_owns.new.owns c.before.before.fill_sets.new.sets c.before.before.before.before.before.before.before.before.before.before.before.before.before.place_owns.ensures c.before.before.fill_sets.ensures,
     )))

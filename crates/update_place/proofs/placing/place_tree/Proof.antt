@@ -15,4 +15,4 @@ place_tree_spec =
     (λ c. search rules)
     (λ c. search rules)
     (λ c. search rules)
-    (λ c. (c.before.before.before.before.before.before.before.before.before.before.before.before.before.before.fill-nodes.ensures, (c.before.before.before.before.before.before.before.before.before.before.fill-sets.ensures, (c.before.before.before.before.before.before.empty-sets.ensures, c.before.before.empty-sets2.ensures)))))
+    (λ c. (c.before.before.before.before.before.before.before.before.before.before.before.before.before.before.fill_nodes.ensures, (c.before.before.before.before.before.before.before.before.before.before.fill_sets.ensures, (c.before.before.before.before.before.before.empty_sets.ensures, c.before.before.empty_sets-2.ensures)))))

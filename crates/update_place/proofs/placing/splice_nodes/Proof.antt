@@ -10,33 +10,33 @@ use Rattle.update_place.proofs.Laying.{Splice, splice_start, CutTurn, turn, spli
 use Rattle.update_place.proofs.placing.splice_nodes.Statement.{statement}
 use Rattle.update_place.proofs.placing.splice_nodes.Tie as tie
 
-abbrev invariant_loop : tie.invariant_loop
+abbrev invariant_loop : tie.invariant-loop-i
 invariant_loop held nodes new out₀ count places at₀ from₀ to₀ i₀ out at «from» to i =
     Splice held new nodes count places (spliced (pieces (cuts_from 0 count places) new) (take nodes held) 0) out₀ at «from» to i out
 
-abbrev decreases_loop : tie.decreases_loop
+abbrev decreases_loop : tie.decreases-loop-i
 decreases_loop held nodes new out₀ count places at₀ from₀ to₀ i₀ out at «from» to i = count - i
 
-abbrev start : tie.At-loop invariant_loop decreases_loop → tie.Start invariant_loop decreases_loop
+abbrev start : tie.At-loop-i invariant_loop decreases_loop → tie.Start invariant_loop decreases_loop
 start c = c.before.before.before.before.before
 
 -- what is known as a turn begins
-turn_in : (c : tie.In-loop invariant_loop decreases_loop)
-    → CutTurn (start c.before).args.nodes (length (start c.before).args.new.now) (length (start c.before).args.out.now) c.before.loop.at c.before.loop.«from» c.before.loop.to
-    (cut_at (start c.before).args.cuts.cuts c.before.loop.i)
+turn_in : (c : tie.In-loop-i invariant_loop decreases_loop)
+    → CutTurn (start c.before).args.nodes (length (start c.before).args.new.now) (length (start c.before).args.out.now) c.before.loop-i.at c.before.loop-i.«from» c.before.loop-i.to
+    (cut_at (start c.before).args.cuts.cuts c.before.loop-i.i)
 turn_in c =
     let a = (start c.before).args in
-    let l = c.before.loop in
-    turn a.held.now a.new.now a.nodes a.cuts.count a.cuts.cuts _ a.out.now l.at l.«from» l.to l.i l.out (start c.before).pre.0 l.invariant c.loop-test.true
+    let l = c.before.loop-i in
+    turn a.held.now a.new.now a.nodes a.cuts.count a.cuts.cuts _ a.out.now l.at l.«from» l.to l.i l.out (start c.before).requires.0 l.invariant c.loop-i-test.true
 
-turn_out : (c : tie.After-loop invariant_loop decreases_loop)
-    → (c.before.loop.at ≤ (start c.before).args.nodes) × (c.before.loop.to + ((start c.before).args.nodes - c.before.loop.at) ≤ length (start c.before).args.out.now)
-    × (c.before.loop.to + ((start c.before).args.nodes - c.before.loop.at)
+turn_out : (c : tie.After-loop-i invariant_loop decreases_loop)
+    → (c.before.loop-i.at ≤ (start c.before).args.nodes) × (c.before.loop-i.to + ((start c.before).args.nodes - c.before.loop-i.at) ≤ length (start c.before).args.out.now)
+    × (c.before.loop-i.to + ((start c.before).args.nodes - c.before.loop-i.at)
     ≡ length (spliced (pieces (cuts_from 0 (start c.before).args.cuts.count (start c.before).args.cuts.cuts) (start c.before).args.new.now) (take (start c.before).args.nodes (start c.before).args.held.now) 0))
 turn_out c =
     let a = (start c.before).args in
-    let l = c.before.loop in
-    tail_turn a.held.now a.new.now a.nodes a.cuts.count a.cuts.cuts _ a.out.now l.at l.«from» l.to l.i l.out (start c.before).pre.0 l.invariant c.loop-test.false
+    let l = c.before.loop-i in
+    tail_turn a.held.now a.new.now a.nodes a.cuts.count a.cuts.cuts _ a.out.now l.at l.«from» l.to l.i l.out (start c.before).requires.0 l.invariant c.loop-i-test.false
 
 pub splice_nodes_spec : {M : Type 1} → statement M
 splice_nodes_spec =
@@ -49,37 +49,37 @@ splice_nodes_spec =
     let a = s.args in
     splice_start a.held.now a.new.now a.nodes a.cuts.count a.cuts.cuts a.out.now s.requires.1.0.few s.requires.1.0.fits s.requires.1.1)
     (λ c. search rules)
-    (λ c. omega (arith, c.before.loop.invariant.ahead.few))
+    (λ c. omega (arith, c.before.loop-i.invariant.ahead.few))
     (λ c. omega (arith, (turn_in c.before.before).after))
     (λ c. omega (arith, (turn_in c.before.before.before).inside))
-    (λ c κs. let i = c.before.before.before.before in let w = turn_in i in let v = i.before.loop.invariant.laying.long in let n = (start i.before).pre.0 in (omega arith, omega arith))
+    (λ c κs. let i = c.before.before.before.before in let w = turn_in i in let v = i.before.loop-i.invariant.laying.long in let n = (start i.before).requires.0 in (omega arith, omega arith))
     (λ c. omega (arith, (turn_in c.before.before.before.before.before.before.before.before).room))
-    (λ c κs. let i = c.before.before.before.before.before.before.before.before in let w = turn_in i in let v = i.before.loop.invariant.laying.long in let e = c.before.before.before.copy-nodes.auto.0 in (omega arith, omega arith))
+    (λ c κs. let i = c.before.before.before.before.before.before.before.before in let w = turn_in i in let v = i.before.loop-i.invariant.laying.long in let e = c.before.before.before.copy_nodes.auto.out in (omega arith, omega arith))
     (λ c. omega (arith, (turn_in c.before.before.before.before.before.before.before.before.before.before.before).came))
     (λ c. omega (arith, (turn_in c.before.before.before.before.before.before.before.before.before.before.before).room))
     (λ c. omega (arith, (turn_in c.before.before.before.before.before.before.before.before.before.before.before).room))
-    (λ c. omega (arith, c.before.before.before.before.before.before.before.before.before.before.before.loop-test.true, c.before.before.before.before.before.before.before.before.before.before.before.before.loop.invariant.ahead.few))
-    (λ c. omega (arith, c.before.before.before.before.before.before.before.before.before.before.before.loop-test.true))
+    (λ c. omega (arith, c.before.before.before.before.before.before.before.before.before.before.before.loop-i-test.true, c.before.before.before.before.before.before.before.before.before.before.before.before.loop-i.invariant.ahead.few))
+    (λ c. omega (arith, c.before.before.before.before.before.before.before.before.before.before.before.loop-i-test.true))
     (λ c.
     let i = c.before.before.before.before.before.before.before.before.before.before.before in
     let s = start i.before in
     let a = s.args in
-    let l = i.before.loop in
-    splice_on a.held.now a.new.now a.nodes a.cuts.count a.cuts.cuts _ a.out.now l.at l.«from» l.to l.i l.out s.pre.0 l.invariant i.loop-test.true
-    c.before.before.before.before.before.before.copy-nodes.new.0 c.before.before.copy-nodes2.new.0 c.before.before.before.before.before.before.copy-nodes.ensures c.before.before.copy-nodes2.ensures)
+    let l = i.before.loop-i in
+    splice_on a.held.now a.new.now a.nodes a.cuts.count a.cuts.cuts _ a.out.now l.at l.«from» l.to l.i l.out s.requires.0 l.invariant i.loop-i-test.true
+    c.before.before.before.before.before.before.copy_nodes.new.out c.before.before.copy_nodes-in-loop-i.new.out c.before.before.before.before.before.before.copy_nodes.ensures c.before.before.copy_nodes-in-loop-i.ensures)
     (λ c. (turn_out c).0)
-    (λ c κs. let x = c.before in let w = turn_out x in let v = x.before.loop.invariant.laying.long in let n = (start x.before).pre.0 in (omega arith, omega arith))
+    (λ c κs. let x = c.before in let w = turn_out x in let v = x.before.loop-i.invariant.laying.long in let n = (start x.before).requires.0 in (omega arith, omega arith))
     (λ c. omega (arith, (turn_out c.before.before.before.before).1))
-    (λ c. let x = c.before.before.before.before in let w = turn_out x in let v = x.before.loop.invariant.laying.long in let e = c.before.before.copy-nodes3.auto.0 in omega arith)
-    (λ c κs. let x = c.before.before.before.before.before in let w = turn_out x in let v = x.before.loop.invariant.laying.long in let e = c.before.before.before.copy-nodes3.auto.0 in omega arith)
-    (λ c. c.before.before.clear-nodes.auto.0 ∙ c.before.before.before.before.before.before.copy-nodes3.auto.0 ∙ c.before.before.before.before.before.before.before.before.before.loop.invariant.laying.long)
+    (λ c. let x = c.before.before.before.before in let w = turn_out x in let v = x.before.loop-i.invariant.laying.long in let e = c.before.before.copy_nodes-2.auto.out in omega arith)
+    (λ c κs. let x = c.before.before.before.before.before in let w = turn_out x in let v = x.before.loop-i.invariant.laying.long in let e = c.before.before.before.copy_nodes-2.auto.out in omega arith)
+    (λ c. c.before.before.clear_nodes.auto.held ∙ c.before.before.before.before.before.before.copy_nodes-2.auto.out ∙ c.before.before.before.before.before.before.before.before.before.loop-i.invariant.laying.long)
     (λ c.
     let x = c.before.before.before.before.before.before.before.before in
     let s = start x.before in
     let a = s.args in
-    let l = x.before.loop in (
+    let l = x.before.loop-i in (
       (turn_out x).2,
-      c.before.before.clear-nodes.ensures
-          ∙ splice_end a.held.now a.new.now a.nodes a.cuts.count a.cuts.cuts _ a.out.now l.at l.«from» l.to l.i l.out s.pre.0 l.invariant x.loop-test.false
-          c.before.before.before.before.before.before.copy-nodes3.new.0 c.before.before.before.before.before.before.copy-nodes3.ensures,
+      c.before.before.clear_nodes.ensures
+          ∙ splice_end a.held.now a.new.now a.nodes a.cuts.count a.cuts.cuts _ a.out.now l.at l.«from» l.to l.i l.out s.requires.0 l.invariant x.loop-i-test.false
+          c.before.before.before.before.before.before.copy_nodes-2.new.out c.before.before.before.before.before.before.copy_nodes-2.ensures,
     )))

@@ -12,5 +12,5 @@ differs_spec =
     (λ c. search rules)
     (λ c. search rules)
     (λ c. search rules)
-    (λ c. rw (eq-eqb _ _ c.if1.true))
-    (λ c. rw (ne_eqb _ _ c.if1.false)))
+    (λ c. rw (eq-eqb _ _ c.if-sets-x.true))
+    (λ c. rw (ne_eqb _ _ c.if-sets-x.false)))

@@ -8,6 +8,6 @@ pub spares_spec : {M : Type 1} → statement M
 spares_spec =
     tie.close
     (tie.spec
-    (λ c. spares_before _ _ c.if1.true)
+    (λ c. spares_before _ _ c.if-node-q.true)
     (λ c. search rules)
-    (λ c. spares_behind _ _ c.before.if1.false))
+    (λ c. spares_behind _ _ c.before.if-node-q.false))

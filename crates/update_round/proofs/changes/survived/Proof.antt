@@ -12,6 +12,6 @@ survived_spec =
     (tie.spec
     (λ c. search rules)
     (λ c κs. c.before.before.requires.numbers 0 (omega arith))
-    (λ c. c.spares.ensures ∙ spared_sole _ _ c.before.before.if1.true)
+    (λ c. c.spares.ensures ∙ spared_sole _ _ c.before.before.if-r-eq1.true)
     (λ c κs. search rules)
-    (λ c. c.all-spare.ensures ∙ spared_all _ _))
+    (λ c. c.all_spare.ensures ∙ spared_all _ _))

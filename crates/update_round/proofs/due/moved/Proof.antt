@@ -9,13 +9,13 @@ pub moved_spec : {M : Type 1} → statement M
 moved_spec =
     tie.close
     (tie.spec
-    (λ c. rw (le-ltb _ _ c.if1.true))
+    (λ c. rw (le-ltb _ _ c.if-n-y.true))
     (λ c. search rules)
     (λ c. search rules)
     (λ c κs. search rules)
-    (λ c. rw (lt-ltb _ _ c.before.before.before.if1.false, eq-eqb _ _ (sym c.before.wide.ensures ∙ c.if2.true)))
+    (λ c. rw (lt-ltb _ _ c.before.before.before.if-n-y.false, eq-eqb _ _ (sym c.before.wide.ensures ∙ c.if-wide-least.true)))
     (λ c. search rules)
     (λ c. search rules)
     (λ c. search rules)
     (λ c. search rules)
-    (λ c. rw (lt-ltb _ _ c.before.before.before.before.before.if1.false, ne_eqb _ _ (λ e. c.before.before.if2.false (c.before.before.before.wide.ensures ∙ e)))))
+    (λ c. rw (lt-ltb _ _ c.before.before.before.before.before.if-n-y.false, ne_eqb _ _ (λ e. c.before.before.if-wide-least.false (c.before.before.before.wide.ensures ∙ e)))))

@@ -8,19 +8,19 @@ use borrow.Author.Rules.{rules}
 use Rattle.update_round.proofs.due.reads_moved.Statement.{statement}
 use Rattle.update_round.proofs.due.reads_moved.Tie as tie
 
-returns : tie.Need-returns
+returns : tie.Need-returns-then-moved
 returns c =
     let g = c.before.before.before.before.before.before.before.before.before.before.before.args in
     let q = c.before.before.before.before.before.before.before.before.before.before.before.requires in
     given_first (moved_in g.label.now (at g.earlier.now) (at g.sets.now) g.least) g.n g.a.now g.b.now g.x _ 0
-    (le_trans q.0 q.1.firsts) (le_trans q.0 q.1.seconds) c.before.before.before.before.wide.ensures (sym c.before.moved.ensures ∙ c.if1.true)
+    (le_trans q.0 q.1.firsts) (le_trans q.0 q.1.seconds) c.before.before.before.before.wide-y.ensures (sym c.before.moved.ensures ∙ c.if-moved.true)
 
-returns_2 : tie.Need-returns-2
+returns_2 : tie.Need-returns
 returns_2 c =
     let g = c.before.before.before.before.before.before.before.before.before.before.before.before.args in
     let q = c.before.before.before.before.before.before.before.before.before.before.before.before.requires in
-    c.moved2.ensures ∙ given_second (moved_in g.label.now (at g.earlier.now) (at g.sets.now) g.least) g.n g.a.now g.b.now g.x _ _
-    (le_trans q.0 q.1.firsts) (le_trans q.0 q.1.seconds) c.before.before.before.before.before.wide.ensures c.before.before.before.wide2.ensures (sym c.before.before.moved.ensures ∙ c.before.if1.false)
+    c.moved-2.ensures ∙ given_second (moved_in g.label.now (at g.earlier.now) (at g.sets.now) g.least) g.n g.a.now g.b.now g.x _ _
+    (le_trans q.0 q.1.firsts) (le_trans q.0 q.1.seconds) c.before.before.before.before.before.wide-y.ensures c.before.before.before.wide-z.ensures (sym c.before.before.moved.ensures ∙ c.before.if-moved.false)
 
 pub reads_moved_spec : {M : Type 1} → statement M
 reads_moved_spec =

@@ -11,9 +11,9 @@ sown_spec =
     tie.close
     (tie.spec
     (λ c κs. search rules)
-    (λ c. sown_load _ _ (sym c.before.is-load.ensures ∙ c.if1.true))
+    (λ c. sown_load _ _ (sym c.before.is_load.ensures ∙ c.if-is_load.true))
     (λ c. search rules)
     (λ c κs. c.before.before.before.before.requires.numbers 0 (omega arith))
-    (λ c. c.sows.ensures ∙ sown_sole _ _ (sym c.before.before.before.before.is-load.ensures ∙ c.before.before.before.if1.false) c.before.before.if2.true)
+    (λ c. c.sows.ensures ∙ sown_sole _ _ (sym c.before.before.before.before.is_load.ensures ∙ c.before.before.before.if-is_load.false) c.before.before.if-r-eq1.true)
     (λ c κs. search rules)
-    (λ c. c.some-sows.ensures ∙ sown_some _ _ (sym c.before.before.before.is-load.ensures ∙ c.before.before.if1.false)))
+    (λ c. c.some_sows.ensures ∙ sown_some _ _ (sym c.before.before.before.is_load.ensures ∙ c.before.before.if-is_load.false)))

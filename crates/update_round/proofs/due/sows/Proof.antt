@@ -8,7 +8,7 @@ pub sows_spec : {M : Type 1} → statement M
 sows_spec =
     tie.close
     (tie.spec
-    (λ c. sows_point _ _ c.if1.true)
+    (λ c. sows_point _ _ c.if-node-q.true)
     (λ c. search rules)
-    (λ c. sows_part _ _ c.before.if2.true)
-    (λ c. sows_before _ _ c.before.before.if1.false c.if2.false))
+    (λ c. sows_part _ _ c.before.if-q-node.true)
+    (λ c. sows_before _ _ c.before.before.if-node-q.false c.if-q-node.false))

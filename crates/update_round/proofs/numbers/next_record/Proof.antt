@@ -5,13 +5,13 @@ use borrow.Author.Rules.{rules}
 use Rattle.update_round.proofs.numbers.next_record.Statement.{statement}
 use Rattle.update_round.proofs.numbers.next_record.Tie as tie
 
-returns : tie.Need-returns
+returns : tie.Need-returns-then-closed
 unfolding round_record
-returns c = rw (c.before.before.if1.true, ← c.before.before.before.capped.ensures, c.capped2.ensures) (simp add-one)
+returns c = rw (c.before.before.if-closed.true, ← c.before.before.before.capped-e.ensures, c.capped-c.ensures) (simp add-one)
 
-returns_2 : tie.Need-returns-2
+returns_2 : tie.Need-returns
 unfolding round_record
-returns_2 c = rw (c.if1.false, ← c.before.capped.ensures)
+returns_2 c = rw (c.if-closed.false, ← c.before.capped-e.ensures)
 
 pub next_record_spec : {M : Type 1} → statement M
 next_record_spec =

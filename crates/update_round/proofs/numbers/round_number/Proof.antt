@@ -9,17 +9,17 @@ use borrow.Author.Rules.{rules}
 use Rattle.update_round.proofs.numbers.round_number.Statement.{statement}
 use Rattle.update_round.proofs.numbers.round_number.Tie as tie
 
-returns : tie.Need-returns
+returns : tie.Need-returns-then-r-lt-ROUND
 unfolding round_number
-returns c = rw (eq-eqb _ _ c.before.before.before.if1.true, add-one) (sym (min-eq_left c.before.if2.true))
+returns c = rw (eq-eqb _ _ c.before.before.before.if-i-r.true, add-one) (sym (min-eq_left c.before.if-r-lt-ROUND.true))
 
-returns_2 : tie.Need-returns-2
+returns_2 : tie.Need-returns-then-i-r
 unfolding round_number
-returns_2 c = rw (eq-eqb _ _ c.before.before.if1.true) (sym (min-eq_right (omega (arith, c.if2.false))))
+returns_2 c = rw (eq-eqb _ _ c.before.before.if-i-r.true) (sym (min-eq_right (omega (arith, c.if-r-lt-ROUND.false))))
 
-returns_3 : tie.Need-returns-3
+returns_3 : tie.Need-returns
 unfolding round_number
-returns_3 c = rw (ne_eqb _ _ c.if1.false)
+returns_3 c = rw (ne_eqb _ _ c.if-i-r.false)
 
 pub round_number_spec : {M : Type 1} → statement M
 round_number_spec =

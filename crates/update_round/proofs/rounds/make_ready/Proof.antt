@@ -12,17 +12,17 @@ use Rattle.update_round.proofs.rounds.make_ready.Tie as tie
 abbrev emptied : (c : tie.Start) → List ℕ
 emptied c = empty_on (slice c.args.start c.args.end c.args.members.now) c.args.sets.now
 
-returns_2 : tie.Need-returns-2
-returns_2 c = ready_alone c.before.before.before.before.args.k c.before.before.before.before.args.alone c.before.before.before.before.args.sets.now (emptied c.before.before.before.before) c.if2.true
+returns_2 : tie.Need-returns-then-alone
+returns_2 c = ready_alone c.before.before.before.before.args.k c.before.before.before.before.args.alone c.before.before.before.before.args.sets.now (emptied c.before.before.before.before) c.if-alone.true
 
-returns_3 : tie.Need-returns-3
-returns_3 c = c.before.before.empty-circle.ensures ∙ ready_first c.before.before.before.before.before.before.before.before.args.k c.before.before.before.before.before.before.before.before.args.alone c.before.before.before.before.before.before.before.before.args.sets.now (emptied c.before.before.before.before.before.before.before.before) c.before.before.before.before.before.if1.false c.before.before.before.before.if2.false
+returns_3 : tie.Need-returns
+returns_3 c = c.before.before.empty_circle.ensures ∙ ready_first c.before.before.before.before.before.before.before.before.args.k c.before.before.before.before.before.before.before.before.args.alone c.before.before.before.before.before.before.before.before.args.sets.now (emptied c.before.before.before.before.before.before.before.before) c.before.before.before.before.before.if-k-ne1.false c.before.before.before.before.if-alone.false
 
 pub make_ready_spec : {M : Type 1} → statement M
 make_ready_spec =
     tie.close
     (tie.spec
-    (λ c. ready_later c.before.before.before.args.k c.before.before.before.args.alone c.before.before.before.args.sets.now (emptied c.before.before.before) c.if1.true)
+    (λ c. ready_later c.before.before.before.args.k c.before.before.before.args.alone c.before.before.before.args.sets.now (emptied c.before.before.before) c.if-k-ne1.true)
     returns_2
     (λ c κs. search rules)
     (λ c. search rules)

@@ -10,32 +10,32 @@ use borrow.Author.Rules.{rules}
 use Rattle.update_round.proofs.rounds.round_at.Statement.{statement}
 use Rattle.update_round.proofs.rounds.round_at.Tie as tie
 
-long : (c : tie.After-make-ready) → c.before.before.before.before.before.before.before.before.before.before.before.args.n ≤ length c.make-ready.new.1.1.1.1.1.0
+long : (c : tie.After-make_ready) → c.before.before.before.before.before.before.before.before.before.before.before.args.n ≤ length c.make_ready.new.sets
 long c =
     let g = c.before.before.before.before.before.before.before.before.before.before.before.args in
-    rw (length_ready g.k c.before.before.lone.result g.sets.now (slice g.start g.end g.members.now) c.make-ready.new.1.1.1.1.1.0 c.make-ready.ensures) c.before.before.before.before.before.before.before.before.before.before.before.requires.1.2
+    rw (length_ready g.k c.before.before.lone-alone.result g.sets.now (slice g.start g.end g.members.now) c.make_ready.new.sets c.make_ready.ensures) c.before.before.before.before.before.before.before.before.before.before.before.requires.1.2
 
-lone_requires : tie.Need-lone-requires
+lone_requires : tie.Need-lone-alone-requires
 lone_requires c κs = (rows_span c.before.before.before.before.before.before.before.before.requires.0, (c.before.before.before.before.before.before.before.before.requires.1.0, c.before.before.before.before.before.before.before.before.requires.1.1))
 
-make_ready_requires : tie.Need-make-ready-requires
+make_ready_requires : tie.Need-make_ready-requires
 make_ready_requires c κs = span_wider c.before.before.before.before.before.before.before.before.before.before.requires.1.2 (rows_span c.before.before.before.before.before.before.before.before.before.before.requires.0)
 
-round_requires : tie.Need-round-requires
+round_requires : tie.Need-round-still-requires
 round_requires c κs = (c.before.before.before.before.before.before.before.before.before.before.before.before.before.before.before.requires.0, (long c.before.before.before.before, c.before.before.before.before.before.before.before.before.before.before.before.before.before.before.before.requires.1.3))
 
-returns : tie.Need-returns
+returns : tie.Need-returns-then-alone
 returns c =
     let g = c.before.before.before.before.before.before.before.before.before.before.before.before.before.before.before.before.before.before.before.before.before.args in
     round_lone (wired g.n g.table.now g.owns.now g.a.now g.b.now g.left.now g.rule.now) g.members.now g.start g.end g.k g.sets.now _ _ _
-    c.before.before.before.before.before.before.before.before.before.before.before.before.lone.ensures c.before.before.before.before.before.before.before.before.before.before.make-ready.ensures c.before.before.before.before.before.round.ensures.1.0 c.if1.true
+    c.before.before.before.before.before.before.before.before.before.before.before.before.lone-alone.ensures c.before.before.before.before.before.before.before.before.before.before.make_ready.ensures c.before.before.before.before.before.round-still.ensures.1.0 c.if-alone.true
 
-returns_2 : tie.Need-returns-2
+returns_2 : tie.Need-returns
 returns_2 c =
     let g = c.before.before.before.before.before.before.before.before.before.before.before.before.before.before.before.before.before.before.before.before.before.args in
     round_many (wired g.n g.table.now g.owns.now g.a.now g.b.now g.left.now g.rule.now) g.members.now g.start g.end g.k g.sets.now _ _ _
-    c.before.before.before.before.before.before.before.before.before.before.before.before.lone.ensures c.before.before.before.before.before.before.before.before.before.before.make-ready.ensures c.before.before.before.before.before.round.ensures.1.0 _ c.if1.false
-    (λ x m. le_trans (span_member (rows_span c.before.before.before.before.before.before.before.before.before.before.before.before.before.before.before.before.before.before.before.before.before.requires.0) x m) (long c.before.before.before.before.before.before.before.before.before.before)) c.before.before.before.before.before.round.ensures.0
+    c.before.before.before.before.before.before.before.before.before.before.before.before.lone-alone.ensures c.before.before.before.before.before.before.before.before.before.before.make_ready.ensures c.before.before.before.before.before.round-still.ensures.1.0 _ c.if-alone.false
+    (λ x m. le_trans (span_member (rows_span c.before.before.before.before.before.before.before.before.before.before.before.before.before.before.before.before.before.before.before.before.before.requires.0) x m) (long c.before.before.before.before.before.before.before.before.before.before)) c.before.before.before.before.before.round-still.ensures.0
 
 pub round_at_spec : {M : Type 1} → statement M
 round_at_spec =

@@ -7,7 +7,7 @@ use Rattle.update_step.proofs.step.finish.Tie as tie
 
 returns : tie.Need-returns
 unfolding shut
-returns c = let g = c.before.before.before.before.args in made_done g.n g.a.now g.r g.earlier.now g.sets.now _ c.changed.ensures
+returns c = let g = c.before.before.before.before.args in made_done g.n g.a.now g.r g.earlier.now g.sets.now _ c.changed-c.ensures
 
 pub finish_spec : {M : Type 1} → statement M
 finish_spec =

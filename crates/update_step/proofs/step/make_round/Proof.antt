@@ -11,7 +11,7 @@ returns c =
     let g = c.before.before.before.before.before.before.before.before.before.before.before.before.before.before.before.before.before.before.before.args in
     let q = c.before.before.before.before.before.before.before.before.before.before.before.before.before.before.before.before.before.before.before.requires in
     made_round (wired g.n g.table.now g.owns.now g.a.now g.b.now g.left.now g.rule.now) g.members.now g.start g.end g.i _ _ _ _ g.r _ g.sets.now _
-    q.1.0.1 q.1.1.0.room c.before.before.before.before.before.before.before.before.before.before.round_number.ensures c.before.before.before.before.before.before.before.round-at.ensures c.before.wide.ensures refl c.next-record.ensures
+    q.1.0.1 q.1.1.0.room c.before.before.before.before.before.before.before.before.before.before.round_number-k.ensures c.before.before.before.before.before.before.before.round_at-closed.ensures c.before.wide-least.ensures refl c.next_record.ensures
 
 pub make_round_spec : {M : Type 1} → statement M
 make_round_spec =

@@ -29,10 +29,10 @@ prepare_spec =
     let s = c.before.before.before.before.before.before.before.before.before.before.before.before.before.before.before.before.before.before.before.before.before.before.before.before in
     let h = s.requires.0 in
     let k = s.requires.1 in
-    (wired_given s.args.table.now s.args.tree.now _ _ _ _ _ _ _ _ h.judged h.sound h.few c.before.before.before.before.before.before.before.before.before.wire-tree.ensures, omega (arith, h.few, k.labels), omega (arith, h.few, k.listed), omega (arith, h.few, k.ended)))
+    (wired_given s.args.table.now s.args.tree.now _ _ _ _ _ _ _ _ h.judged h.sound h.few c.before.before.before.before.before.before.before.before.before.wire_tree.ensures, omega (arith, h.few, k.labels), omega (arith, h.few, k.listed), omega (arith, h.few, k.ended)))
     (λ c. search rules)
     (λ c. search rules)
     (λ c. search rules)
     (λ c. search rules)
     (λ c. search rules)
-    (λ c. record { wired = c.before.before.before.before.before.before.before.before.before.before.before.before.before.before.before.before.wire-tree.ensures; laid = c.before.before.before.before.before.before.rank-circles.ensures }))
+    (λ c. record { wired = c.before.before.before.before.before.before.before.before.before.before.before.before.before.before.before.before.wire_tree.ensures; laid = c.before.before.before.before.before.before.rank_circles.ensures }))

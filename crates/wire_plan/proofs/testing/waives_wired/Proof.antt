@@ -6,13 +6,13 @@ use borrow.Author.Rules.{rules}
 use Rattle.wire_plan.proofs.testing.waives_wired.Statement.{statement}
 use Rattle.wire_plan.proofs.testing.waives_wired.Tie as tie
 
-slice_aggregate_waives_in : tie.Need-slice-aggregate-waives-in
+slice_aggregate_waives_in : tie.Need-slice_bounds-waives_in-end
 slice_aggregate_waives_in c =
     let s = c.before.before.before.before.before.before.before.before.before.before.before.before.before.before.before in
     let l = prepared_long s.args.table.now s.args.tree.now _ _ _ _ _ _ _ _ _ _ _ _ _ _ _ s.requires.few refl refl c.before.before.before.before.before.before.prepare.ensures in
     omega (arith, l.0, l.1)
 
-waives_in_requires : tie.Need-waives-in-requires
+waives_in_requires : tie.Need-waives_in-requires
 waives_in_requires c κs =
     let s = c.before.before.before.before.before.before.before.before.before.before.before.before.before.before.before.before.before in
     let p = c.before.before.before.before.before.before.before.before.prepare.ensures in
@@ -23,7 +23,7 @@ waives_in_requires c κs =
 returns : tie.Need-returns
 returns c =
     let s = c.before.before.before.before.before.before.before.before.before.before.before.before.before.before.before.before.before.before in
-    c.waives-in.ensures ∙ tests s.args.table.now s.args.tree.now _ _ _ _ _ _ _ _ _ _ _ _ _ _ _ s.requires c.before.before.before.before.before.before.before.before.before.prepare.ensures
+    c.waives_in.ensures ∙ tests s.args.table.now s.args.tree.now _ _ _ _ _ _ _ _ _ _ _ _ _ _ _ s.requires c.before.before.before.before.before.before.before.before.before.prepare.ensures
 
 pub waives_wired_spec : {M : Type 1} → statement M
 waives_wired_spec =
