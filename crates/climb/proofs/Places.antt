@@ -1,6 +1,6 @@
 -- What a loop over the places of a circle shows at each turn. Assumes nothing.
 use mathlib.Core.Path.{◌≡◌, refl, sym, ap, ◌∙◌}
-use mathlib.Core.Bool.{Bool, true, false, cond, not, ◌&&◌, ◌||◌, or_false, and_assoc, and_true}
+use mathlib.Core.Bool.{Bool, true, false, cond, not, ◌&&◌, ◌||◌, or-false, and_assoc, and-true}
 use mathlib.Core.Logic.{⊎_elim}
 use mathlib.Core.List.{List, [], ◌∷◌, ◌++◌, map}
 use Prim.Native.Nat.{ℕ, suc, ◌+◌, ◌-◌, ◌≤◌, ◌<◌}
@@ -91,7 +91,7 @@ pub still_on_lem : (f : ℕ → Bool) (m : List ℕ) (p end : ℕ) (t u : Bool) 
 still_on_lem f m p end t u h l e = rw (slice-cons p end m 0 h l, e) (and_assoc t (f (get_or m p 0)) (all_of f (slice (suc p) end m)))
 
 pub still_over : (f : ℕ → Bool) (m : List ℕ) (p end : ℕ) (t : Bool) → end ≤ p → p ≤ end → t ≡ (t && all_of f (slice p end m))
-still_over f m p end t a b = rw (slice_over m p end a b) (sym (and_true t))
+still_over f m p end t a b = rw (slice_over m p end a b) (sym (and-true t))
 
 -- what stands in a row, read back
 pub slice_row : (ws vs : List ℕ) (start end : ℕ) → start + length vs ≡ end → end ≤ length ws → slice start end (row ws start vs) ≡ vs
@@ -139,9 +139,9 @@ member_given n a b x h = by (ltb a n) (ltb b n) (λ e. ne_eqb x a (λ q. omega (
   where
     by : (s t : Bool) → (s ≡ false → eqb x a ≡ false) → (t ≡ false → eqb x b ≡ false)
         → member (cond s (a ∷ cond t (b ∷ []) []) (cond t (b ∷ []) [])) x ≡ (eqb x a || eqb x b)
-    by true true p q = ap (λ (z : Bool). eqb x a || z) (or_false (eqb x b))
+    by true true p q = ap (λ (z : Bool). eqb x a || z) (or-false (eqb x b))
     by true false p q = ap (λ (z : Bool). eqb x a || z) (sym (q refl))
-    by false true p q = or_false (eqb x b) ∙ ap (λ (z : Bool). z || eqb x b) (sym (p refl))
+    by false true p q = or-false (eqb x b) ∙ ap (λ (z : Bool). z || eqb x b) (sym (p refl))
     by false false p q = sym (rw (p refl, q refl))
 
 module _ (n : ℕ) (a b m : List ℕ) (start end x y z : ℕ) (k : end ≤ length m) (h : end - start ≡ 1) (e : x ≡ get_or m start 0) (s : x < n)

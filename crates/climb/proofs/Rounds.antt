@@ -7,7 +7,7 @@ use Prim.Native.Nat.{ℕ, zero, suc, ◌+◌, ◌-◌, ◌*◌, ◌≤◌, ◌<�
 use native.Mathlib.Nat.{eq-or-lt_of_le, le_refl, le_trans, sub-add_cancel}
 use native.Mathlib.Omega.{arith}
 use lib.Dec.{eqb}
-use borrow.Author.Tests.{eqb-true, eq-eqb, ne_eqb, not_true}
+use borrow.Author.Tests.{eqb-true, eq-eqb, ne_eqb, not-true}
 use lib.ListN.{length}
 use Rattle.circles.specs.Graph.{◌∈◌}
 use Rattle.circles.specs.Ranked.{member, lone_of}
@@ -50,7 +50,7 @@ lone_outside S (z ∷ []) h x m y a =
     let e : x ≡ z = only_member z x m in
     ⊎_elim (λ (t : eqb y z ≡ true).
     let p : y ≡ z = eqb-true y z t in
-    absurd (true≢false (sym (member_of (S.args z) z (rw (e, p) at a)) ∙ not_true (member (S.args z) z) h)))
+    absurd (true≢false (sym (member_of (S.args z) z (rw (e, p) at a)) ∙ not-true (member (S.args z) z) h)))
     (λ (t : eqb y z ≡ false). rw t) (either (eqb y z))
 lone_outside S (z ∷ w ∷ l) h x m y a = absurd (true≢false (sym h))
 

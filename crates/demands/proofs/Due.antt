@@ -5,7 +5,7 @@ use mathlib.Core.Logic.{⊎_elim}
 use mathlib.Core.List.{List}
 use Prim.Native.Nat.{ℕ}
 use lib.Dec.{eqb}
-use borrow.Author.Tests.{eqb-false, ne_eqb, not_true}
+use borrow.Author.Tests.{eqb-false, ne_eqb, not-true}
 use Rattle.circles.specs.Ranked.{member, any_of}
 use Rattle.circles.proofs.Lists.{or_parts, any_of_lem, of_any}
 use Rattle.climb.specs.System.{Assignment, System}
@@ -30,7 +30,7 @@ module _ (S : System) (fresh : ℕ → Bool) (before v : Assignment) (C : List �
       (λ p. let a = any_of_lem differs (S.args x) p in
       let y = a.0 in
       let q = and_is a.2 in
-      by_argument x y m a.1 (not_true (member C y) q.0) (eqb-false (v y) (before y) (not_true (eqb (v y) (before y)) q.1)))
+      by_argument x y m a.1 (not-true (member C y) q.0) (eqb-false (v y) (before y) (not-true (eqb (v y) (before y)) q.1)))
       (or_parts (fresh x) (any_of differs (S.args x)) s.2)
 
   due_from : Due S fresh before v C → due_of S fresh before v C ≡ true

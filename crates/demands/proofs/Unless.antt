@@ -6,7 +6,7 @@ use Prim.Native.Nat.{ℕ}
 use native.Mathlib.Omega.{arith}
 use lib.Dec.{eqb}
 use lib.ListN.{get_or}
-use borrow.Author.Tests.{not_false, eqb-true}
+use borrow.Author.Tests.{not-false, eqb-true}
 use Rattle.sets.specs.Operations.{without, value_of}
 use Rattle.sets.specs.Arguments.{arguments_of}
 use Rattle.sets.specs.Members.{◌⊑◌}
@@ -64,7 +64,7 @@ rest : (a b : Bool) → a ≡ true → (a && b) ≡ false → b ≡ false
 rest a b h k = rw h at k
 
 consistent : (sets : List ℕ) → some_below (off sets) 8 ≡ false → Consistent (system table_e node_e own_e) (at sets)
-consistent sets h = record { holds = λ x d. eqb-true (get_or sets x 0) ((system table_e node_e own_e).eval (at sets) x) (not_false _ (rest (declared table_e node_e x) _ d (some_none (off sets) 8 h x (declared_below table_e node_e x d)))) }
+consistent sets h = record { holds = λ x d. eqb-true (get_or sets x 0) ((system table_e node_e own_e).eval (at sets) x) (not-false _ (rest (declared table_e node_e x) _ d (some_none (off sets) 8 h x (declared_below table_e node_e x d)))) }
 
 none : {a : ℕ} → a ⊑ 0 → a ≡ 0
 none {a} h = sub_antisym h (sub_zero a)

@@ -3,7 +3,7 @@ use mathlib.Core.Path.{◌≡◌, refl, ap, sym}
 use mathlib.Core.Bool.{Bool, true, false, not}
 use Prim.Native.Nat.{ℕ, ◌≤◌}
 use native.Mathlib.Omega.{arith}
-use borrow.Author.Tests.{ltb-false, eqb-true, le-ltb, eq-eqb, not_true}
+use borrow.Author.Tests.{ltb-false, eqb-true, le-ltb, eq-eqb, not-true}
 use lib.Dec.{ltb, eqb}
 use Rattle.session_memory.specs.Suspended.{Tests}
 
@@ -18,7 +18,7 @@ module _ {P : Type 0} where
   tests_equal a b f g = record { yes = λ e. f (eqb-true a b e); no = λ p. eq-eqb a b (g p) }
 
   pub tests_least : (a b : ℕ) → (b ≤ a → P) → (P → b ≤ a) → Tests (not (ltb a b)) P
-  tests_least a b f g = record { yes = λ e. f (ltb-false a b (not_true (ltb a b) e)); no = λ p. ap not (le-ltb a b (g p)) }
+  tests_least a b f g = record { yes = λ e. f (ltb-false a b (not-true (ltb a b) e)); no = λ p. ap not (le-ltb a b (g p)) }
 
   -- two tests of one thing agree
   pub tests_one : (a b : Bool) → Tests a P → Tests b P → a ≡ b

@@ -5,7 +5,7 @@ use mathlib.Core.Bool.{Bool, true, false, not, ◌&&◌, true≢false, false≢t
 use mathlib.Core.List.{List}
 use native.Mathlib.Nat.{le_of_suc-le-suc}
 use native.Mathlib.Omega.{arith}
-use borrow.Author.Tests.{le-ltb, lt-leb, ne_eqb, ltb-false, eqb-true, eqb-false, not_false}
+use borrow.Author.Tests.{le-ltb, lt-leb, ne_eqb, ltb-false, eqb-true, eqb-false, not-false}
 use lib.Dec.{ltb, eqb}
 use Rattle.refusal.specs.Orders.{or_else}
 use Rattle.table.specs.Words.{symbol_count, production_count, synthesized, inherited, child_count, symbol_at, defined, occurs, rule_of, head_at, constant_at}
@@ -96,7 +96,7 @@ formed_back h c f =
     ) (seven_back (eqb (op_number h) 7) (op_number h) c refl f.few)
 
 named_one : (u d : Bool) → (u && not d) ≡ false → u ≡ true → d ≡ true
-named_one true d h e = not_false d h
+named_one true d h e = not-false d h
 named_one false d h e = absurd (false≢true e)
 
 named_back : (u d : Bool) → (u ≡ true → d ≡ true) → (u && not d) ≡ false

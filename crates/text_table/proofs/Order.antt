@@ -4,7 +4,7 @@ use mathlib.Core.List.{List, [], ◌∷◌, ◌++◌, append_assoc, append-nil}
 use mathlib.Core.Logic.{⊎_elim}
 use Prim.Native.Nat.{ℕ, zero, suc, ◌+◌, ◌-◌, ◌≤◌, ◌<◌}
 use native.Mathlib.Omega.{arith}
-use native.Mathlib.Nat.{add-zero, zero-add, sub_zero}
+use native.Mathlib.Nat.{add-zero, zero-add, sub-zero}
 use native.Mathlib.Numerals.{add-one}
 use borrow.Author.Tests.{lt-ltb, le-ltb}
 use Rattle.text_line.proofs.Values.{lt_or_ge}
@@ -90,7 +90,7 @@ module _ (t : List ℕ) (p : ℕ) where
   seek_rest (suc n) q e =
       ⊎_elim
       (λ h. let m : n ≡ child_count t p - q = omega arith in
-      rw (lt-ltb 0 (defined t p q) h, append_assoc, row_all (equation_row p q) (defined t p q), sub_zero, m))
+      rw (lt-ltb 0 (defined t p q) h, append_assoc, row_all (equation_row p q) (defined t p q), sub-zero, m))
       (λ h. let z : defined t p q ≡ 0 = omega arith in let m : q + 1 + n ≡ suc (child_count t p) = omega arith in rw (le-ltb 0 (defined t p q) h) (rw z (seek_rest n (q + 1) m)))
       (lt_or_ge 0 (defined t p q))
 
@@ -123,10 +123,10 @@ entries Ended = []
 
 pub rest_next : (t : List ℕ) (x : Expected) → Valid t x → rest_of t x ≡ entries x ++ rest_of t (next_of t x)
 unfolding next_of rest_of frames part_of
-rest_next t AtHeader v = rw (row_all symbol_row (symbol_count t), row_all (part_of t) (production_count t), sub_zero)
+rest_next t AtHeader v = rw (row_all symbol_row (symbol_count t), row_all (part_of t) (production_count t), sub-zero)
 rest_next t (AtSymbol s) v =
     rw (rows_more symbol_row s (symbol_count t) v)
-    (⊎_elim (λ h. rw (lt-ltb (s + 1) (symbol_count t) h)) (λ h. rw (le-ltb (s + 1) (symbol_count t) h, rows_none symbol_row (s + 1) (symbol_count t) h, sub_zero)) (lt_or_ge (s + 1) (symbol_count t)))
+    (⊎_elim (λ h. rw (lt-ltb (s + 1) (symbol_count t) h)) (λ h. rw (le-ltb (s + 1) (symbol_count t) h, rows_none symbol_row (s + 1) (symbol_count t) h, sub-zero)) (lt_or_ge (s + 1) (symbol_count t)))
 rest_next t (AtProduction p) v =
     rw (rows_more (part_of t) p (production_count t) v, seek_rest t p (suc (child_count t p)) 0 (omega arith), row_all (position_row t p) (suc (child_count t p)))
 rest_next t (AtEquation p q k) v =

@@ -3,7 +3,7 @@ use mathlib.Core.Path.{◌≡◌, refl}
 use mathlib.Core.Bool.{false, not}
 use Prim.Native.Nat.{ℕ, suc, ◌-◌, ◌<◌}
 use native.Mathlib.Omega.{arith}
-use borrow.Author.Tests.{not_false, eqb-true}
+use borrow.Author.Tests.{not-false, eqb-true}
 use lib.Dec.{eqb}
 use Rattle.refusal.specs.Numbers.{number_of}
 use Rattle.refusal.specs.declared.Refusal.{Refusal}
@@ -43,4 +43,4 @@ all_numbered = some_none (λ (i : ℕ). not (eqb (number_of (refusal_of (suc i))
 pub numbered : (n : ℕ) → 0 < n → n < 18 → number_of (refusal_of n) ≡ n
 numbered n l u =
     let e : suc (n - 1) ≡ n = omega arith in
-    rw e at (eqb-true (number_of (refusal_of (suc (n - 1)))) (suc (n - 1)) (not_false _ (all_numbered (n - 1) (omega arith))))
+    rw e at (eqb-true (number_of (refusal_of (suc (n - 1)))) (suc (n - 1)) (not-false _ (all_numbered (n - 1) (omega arith))))

@@ -3,7 +3,7 @@ use Prim.Native.Nat.{ℕ, suc, ◌+◌, ◌-◌, ◌≤◌, ◌<◌}
 use mathlib.Core.Path.{◌≡◌, refl, subst, ◌∙◌}
 use mathlib.Core.List.{List, [], ◌∷◌, ◌++◌}
 use lib.ListN.{length, get_or, drop}
-use native.Mathlib.Nat.{le_refl, sub_zero}
+use native.Mathlib.Nat.{le_refl, sub-zero}
 use native.Mathlib.Omega.{arith}
 use Rattle.table.specs.Words.{production_count, left_of, child_count, child_of, children_from, children}
 use Rattle.tree.specs.Tree.{judge_nodes}
@@ -36,7 +36,7 @@ module _ (t ns : List ℕ) (at : ℕ) where
 
   pub subtree_goes : (s p : ℕ) → at < length ns → p ≡ get_or ns at 0 → p < production_count t → left_of t p ≡ s
       → (w : Walk) → Says t ns (at + 1) (at + 1) (children_from t p (child_count t p - 0) 0) w → Says t ns at (suc at) (s ∷ []) w
-  subtree_goes s p h e b l w r = go w (rw (e, sub_zero) at r)
+  subtree_goes s p h e b l w r = go w (rw (e, sub-zero) at r)
     where
       step : (ss : List ℕ) → judge_nodes t (drop at ns) (s ∷ ss) ≡ judge_nodes t (drop (at + 1) ns) (children t (get_or ns at 0) ++ ss)
       step ss = judge_step t ns at h s ss (rw e at b) (rw e at l)

@@ -8,7 +8,7 @@ use Prim.Native.Nat.{ℕ, zero, suc, ◌+◌, ◌≤◌}
 use native.Mathlib.Omega.{arith}
 use lib.Dec.{eqb, ltb, leb}
 use lib.ListN.{length, get_or}
-use borrow.Author.Tests.{eqb-true, eqb-false, eq-eqb, ne_eqb, ltb-true, lt-ltb, leb-true, le-leb, not_true}
+use borrow.Author.Tests.{eqb-true, eqb-false, eq-eqb, ne_eqb, ltb-true, lt-ltb, leb-true, le-leb, not-true}
 use Rattle.circles.specs.Graph.{Graph}
 use Rattle.circles.specs.Ranked.{circle_at, member, keep, up_from, circle_of, ranking, labels_of, ranked_by, ranked}
 use Rattle.circles.proofs.Lists.{or_parts, bool_same, keep_same}
@@ -89,7 +89,7 @@ module _ (S : System) (r : Record) (earlier sets : List ℕ) (x : ℕ) where
       record {
         declared = q.0;
         survives = λ p a. let o = every_at (λ p. survives_at p (node_of x)) (points_of r) q.1 p a in outlives p o;
-        differs = eqb-false (at sets x) (at earlier x) (not_true (eqb (at sets x) (at earlier x)) p.1);
+        differs = eqb-false (at sets x) (at earlier x) (not-true (eqb (at sets x) (at earlier x)) p.1);
       }
 
   stays_at : (p : Point) → (node_of x ≤ p.node) ⊎ (p.node + p.count ≤ node_of x) → survives_at p (node_of x) ≡ true

@@ -1,6 +1,6 @@
 -- Several points: what their tests say, and that one point gives the old answers. Assumes nothing.
 use mathlib.Core.Path.{◌≡◌, sym, ap, ◌∙◌, fun_ext}
-use mathlib.Core.Bool.{false, ◌&&◌, or_false}
+use mathlib.Core.Bool.{false, ◌&&◌, or-false}
 use mathlib.Core.List.{List, [], ◌∷◌, map}
 use Prim.Native.Nat.{ℕ, ◌+◌, ◌-◌, ◌≤◌, max, zero-le}
 use native.Mathlib.Omega.{arith}
@@ -37,7 +37,7 @@ module _ (t : List ℕ) (m : Memory) (r : Record) (p : Part) where
 
   one_missing : missing r.nodes (p ∷ []) ≡ leb r.nodes p.point
   unfolding missing
-  one_missing = or_false (leb r.nodes p.point)
+  one_missing = or-false (leb r.nodes p.point)
 
   one_overlaps : overlaps t ns 0 (p ∷ []) ≡ false
   unfolding overlaps
@@ -61,7 +61,7 @@ module _ (t : List ℕ) (m : Memory) (r : Record) (p : Part) where
 
   one_arranged : (x : ℕ) → arranged_row t ns (p ∷ []) m.sets x ≡ arranged t (nodes_row t ns (p ∷ [])) p.point (part t ns p.point) (length p.nodes) m.sets x
   unfolding arranged_row arranged new_at below_point slot_row former_row
-  one_arranged x = rw (one_points, or_false (ltb p.point (node_of x) && ltb (node_of x) (p.point + length p.nodes)))
+  one_arranged x = rw (one_points, or-false (ltb p.point (node_of x) && ltb (node_of x) (p.point + length p.nodes)))
 
   one_memory : replaced_row t m r.nodes (p ∷ []) ≡ replaced t m r.nodes p.point p.nodes p.owns
   unfolding replaced_row replaced nodes_row owns_row

@@ -1,6 +1,6 @@
 -- Due and the first due circle, as the loops over the arrays find them. Assumes nothing.
 use mathlib.Core.Path.{◌≡◌, refl, sym, ap, ◌∙◌}
-use mathlib.Core.Bool.{Bool, true, false, cond, not, ◌&&◌, ◌||◌, or-true, or_false}
+use mathlib.Core.Bool.{Bool, true, false, cond, not, ◌&&◌, ◌||◌, or-true, or-false}
 use mathlib.Core.List.Memᴰ
 use mathlib.Core.List.{List, [], ◌∷◌}
 use Prim.Native.Nat.{ℕ, zero, suc, ◌+◌, ◌-◌, ◌≤◌, ◌<◌}
@@ -32,9 +32,9 @@ any_given : (f : ℕ → Bool) (n y z : ℕ) → any_of f (given n y z) ≡ (con
 any_given f n y z = by (ltb y n) (ltb z n)
   where
     by : (s t : Bool) → any_of f (cond s (y ∷ cond t (z ∷ []) []) (cond t (z ∷ []) [])) ≡ (cond s (f y) false || cond t (f z) false)
-    by true true = ap (λ (u : Bool). f y || u) (or_false (f z))
+    by true true = ap (λ (u : Bool). f y || u) (or-false (f z))
     by true false = refl
-    by false true = or_false (f z)
+    by false true = or-false (f z)
     by false false = refl
 
 module _ (f : ℕ → Bool) (n : ℕ) (a b : List ℕ) (x y z : ℕ) (h : x < length a) (k : x < length b) (e : y ≡ get_or a x 0) where

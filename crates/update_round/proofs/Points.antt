@@ -1,6 +1,6 @@
 -- The points of a record, looked at one by one, or a sole one. Assumes nothing.
 use mathlib.Core.Path.{◌≡◌, refl, sym, ap, ◌∙◌}
-use mathlib.Core.Bool.{Bool, true, false, ◌&&◌, ◌||◌, or_false, and_true}
+use mathlib.Core.Bool.{Bool, true, false, ◌&&◌, ◌||◌, or-false, and-true}
 use mathlib.Core.List.{List, [], ◌∷◌}
 use Prim.Native.Nat.{ℕ, suc, ◌+◌, ◌-◌, ◌/◌, ◌%◌, ◌≤◌, ◌<◌}
 use native.Mathlib.Numerals.{add-one}
@@ -21,7 +21,7 @@ use Rattle.update.specs.Steps.{sown_of, survives}
 module _ (q : Point) (x : ℕ) where
   pub sows_point : x / 8 ≡ q.node → ltb (x % 8) 4 ≡ sown_by q.node q.count x
   unfolding sown_by
-  sows_point e = rw (eq-eqb (x / 8) q.node e, le-ltb q.node (x / 8) (omega arith)) (sym (or_false (ltb (x % 8) 4)))
+  sows_point e = rw (eq-eqb (x / 8) q.node e, le-ltb q.node (x / 8) (omega arith)) (sym (or-false (ltb (x % 8) 4)))
 
   pub sows_part : q.node < x / 8 → ltb (x / 8) (q.node + q.count) ≡ sown_by q.node q.count x
   unfolding sown_by
@@ -102,7 +102,7 @@ module _ (r : Record) (x : ℕ) where
   sown_some h = rw h
 
   pub sown_sole : is_load r.«open» ≡ false → r.count ≡ 1 → sown_by (point_at r.points 0).node (point_at r.points 0).count x ≡ sown_of r x
-  sown_sole h e = sym (ap (λ qs. sown_at qs x) (sole r e) ∙ or_false _) ∙ sown_some h
+  sown_sole h e = sym (ap (λ qs. sown_at qs x) (sole r e) ∙ or-false _) ∙ sown_some h
 
 -- ---- left in the tree
 
@@ -125,4 +125,4 @@ module _ (r : Record) (x : ℕ) where
   spared_all = refl
 
   pub spared_sole : r.count ≡ 1 → survives_at (point_at r.points 0) (x / 8) ≡ survives r x
-  spared_sole e = sym (ap (λ qs. is_old qs (x / 8)) (sole r e) ∙ and_true _) ∙ spared_all
+  spared_sole e = sym (ap (λ qs. is_old qs (x / 8)) (sole r e) ∙ and-true _) ∙ spared_all

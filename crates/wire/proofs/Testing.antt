@@ -1,6 +1,6 @@
 -- The test for 21 over the arrays is the test over the tree. Assumes nothing.
 use mathlib.Core.Path.{◌≡◌, refl, sym, ap, ◌∙◌}
-use mathlib.Core.Bool.{Bool, true, false, cond, ◌&&◌, or_false}
+use mathlib.Core.Bool.{Bool, true, false, cond, ◌&&◌, or-false}
 use mathlib.Core.List.Memᴰ
 use mathlib.Core.List.{List, [], ◌∷◌}
 use mathlib.Core.Logic.{⊎_elim}
@@ -75,7 +75,7 @@ module _ (t ns a₀ b₀ left₀ rule₀ label₀ a b left rule label : List ℕ
       let i : waived t ns x ≡ second_at t ns x ∷ [] = rw k at f in
       let m : second_at t ns x ∈ waived t ns x = rw i (Memᴰ.head refl) in
       let l : second_at t ns x < n = declared_below t ns (second_at t ns x) (read_declared t ns g e x (second_at t ns x) m) in
-      rw (i, k, lt-ltb (second_at t ns x) n l, label_at_lem (second_at t ns x) l, label_at_lem x h) (sym (or_false (eqb (label_at (labels_of (graph t ns)) (second_at t ns x)) (label_at (labels_of (graph t ns)) x)))))
+      rw (i, k, lt-ltb (second_at t ns x) n l, label_at_lem (second_at t ns x) l, label_at_lem x h) (sym (or-false (eqb (label_at (labels_of (graph t ns)) (second_at t ns x)) (label_at (labels_of (graph t ns)) x)))))
       (λ (k : nine x ≡ false).
       let i : waived t ns x ≡ [] = rw k at f in
       rw (i, k) (and_middle (ltb (second_at t ns x) n) (eqb (label_at label (second_at t ns x)) (label_at label x))))

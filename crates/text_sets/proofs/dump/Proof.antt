@@ -19,7 +19,7 @@ abbrev memory : tie.Start → Memory
 memory s = lent s.args.held.now s.args.held_owns.now s.args.sets.now s.args.earlier.now
 
 abbrev start : tie.In-Sound → tie.Start
-start c = c.before.before.before.before.before.before.before.before
+start c = c.before.before.before.before.before.before.before
 
 sound : (c : tie.In-Sound) → Looked (start c).args.table.now (memory (start c)) (start c).args.«record»
 sound c = looked (start c).args.table.now (memory (start c)) (start c).args.«record» (sound_zero c.enum_told.given.1 c.before.before.judge_look.ensures)
@@ -49,7 +49,7 @@ returns_2 c =
 
 returns_3 : tie.Need-returns-in-Refused
 returns_3 c =
-    let s = c.before.before.before.before.before.before.before.before.before in
+    let s = c.before.before.before.before.before.before.before in
     dump_stopped s.args.table.now (memory s) s.args.«record» s.args.text.now c.before.r.given.0.0 (refused_number c.before.r.given.1 c.before.before.before.judge_look.ensures)
 
 pub dump_spec : {M : Type 1} → statement M

@@ -10,7 +10,7 @@ use Rattle.tree.proofs.judge_nodes.Tie as tie
 
 none_left : tie.Need-returns-then-productions-next
 none_left c =
-    let s = c.before.before.before.before.before.before in
+    let s = c.before.before.before.before in
     let b = c.before.before in
     let h = known s.args.table.now s.args.productions.now 0 _ (_ ∷ []) b.next.given.1 b.before.before.subtree.ensures in
     sym (h.rest [] ∙ judge_done s.args.table.now s.args.productions.now b.next.given.0.0 (omega arith))
@@ -18,7 +18,7 @@ none_left c =
 left_number : tie.Need-returns-then-production_count-over
 left_number c =
     let d = c.before.before.before.before in
-    let s = d.before.before.before.before.before.before in
+    let s = d.before.before.before.before in
     let b = d.before.before in
     let h = known s.args.table.now s.args.productions.now 0 _ (_ ∷ []) b.next.given.1 b.before.before.subtree.ensures in
     sym (h.rest [] ∙ judge_number s.args.table.now s.args.productions.now b.next.given.0.0 (omega arith) [] (omega arith))
@@ -26,14 +26,14 @@ left_number c =
 left_over : tie.Need-returns-else-production_count-over
 left_over c =
     let d = c.before.before.before.before in
-    let s = d.before.before.before.before.before.before in
+    let s = d.before.before.before.before in
     let b = d.before.before in
     let h = known s.args.table.now s.args.productions.now 0 _ (_ ∷ []) b.next.given.1 b.before.before.subtree.ensures in
     sym (h.rest [] ∙ judge_over s.args.table.now s.args.productions.now b.next.given.0.0 (omega arith) (omega arith))
 
 wrong : tie.Need-returns-in-Wrong
 wrong c =
-    let s = c.before.before.before.before.before in
+    let s = c.before.before.before in
     let h = known s.args.table.now s.args.productions.now 0 _ (_ ∷ []) c.before.r.given.1 c.before.before.before.subtree.ensures in
     sym (h [])
 

@@ -14,20 +14,20 @@ use Rattle.tree.proofs.judge_tree.Tie as tie
 large : tie.Need-returns-then-productions-gt-NODES
 large c =
     let b = c.before in
-    let s = b.before.before.before.before.before in
+    let s = b.before.before.before.before in
     too_large s.args.table.now s.args.productions.now s.args.owns.now (sound_zero b.enum_told.given.1 b.before.before.judge_table_lem.ensures) (omega arith)
 
 other : tie.Need-returns-then-productions-owns
 other c =
     let b = c.before.before in
-    let s = b.before.before.before.before.before in
+    let s = b.before.before.before.before in
     unequal s.args.table.now s.args.productions.now s.args.owns.now (sound_zero b.enum_told.given.1 b.before.before.judge_table_lem.ensures) (omega arith) (λ e. omega arith)
 
 nodes : tie.Need-returns-else-productions-owns
 nodes c =
     let d = c.before in
     let b = d.before.before in
-    let s = b.before.before.before.before.before in
+    let s = b.before.before.before.before in
     c.judge_nodes.ensures
     ∙ judged s.args.table.now s.args.productions.now s.args.owns.now (sound_zero b.enum_told.given.1 b.before.before.judge_table_lem.ensures) (omega arith) (omega arith)
 

@@ -18,7 +18,7 @@ decreases_loop table productions ends₀ at₀ ends at = at
 
 again : tie.Need-loop-at-preserved invariant_loop decreases_loop
 again c =
-    let s = c.before.before.before.before.before.before in
+    let s = c.before.before.before.before.before in
     let l = c.before.before.before.loop-at in (
       simp length-set l.invariant.0,
       omega arith,

@@ -63,7 +63,7 @@ holding s = record { ground = s.requires.0; tree = λ h. s.requires.1.0 }
 -- ---- the cuts, and what is judged of them
 
 abbrev start : tie.After-cuts_of-cuts → tie.Start
-start c = c.before.before.before.before.before.before.before.before
+start c = c.before.before.before.before.before.before.before
 
 aimed : (c : tie.After-cuts_of-cuts) → Aimed (start c).args.table.now (tree (start c)) (start c).args.points c.cuts_of-cuts.result
 aimed c = let s = start c in record {
@@ -79,7 +79,7 @@ abbrev cutting : tie.In-Sound → tie.After-cuts_of-cuts
 cutting c = c.before.before.before.before
 
 abbrev row : tie.Start → List Part
-row s = handed_row (named_points s.args.points) s.args.new.now s.args.new-owns.now
+row s = handed_row (named_points s.args.points) s.args.new.now s.args.new_owns.now
 
 zero_all : (c : tie.In-Sound) → refusal_by (last_order (start (cutting c)).args.table.now (tree (start (cutting c))) (row (start (cutting c)))) ≡ 0
 zero_all c = sound_zero c.enum_told.given.1 c.before.before.judge_replaced.ensures
@@ -93,16 +93,16 @@ slice_reshare_prefix_cuts_of : tie.Need-slice_bounds-cuts_of-end
 slice_reshare_prefix_cuts_of c = search rules
 
 slice_aggregate_cuts_of : tie.Need-slice_bounds-cuts_of-end-2
-slice_aggregate_cuts_of c = sym (tree_long c.before.before.before.before.before.before.before)
+slice_aggregate_cuts_of c = sym (tree_long c.before.before.before.before.before.before)
 
 cuts_of_requires : tie.Need-cuts_of-cuts-requires
-cuts_of_requires c κs = let s = c.before.before.before.before.before.before.before in (limits _ s.requires.0.table, (numbered s, (few s, (counted _ s.requires.1.1.counted).few, inside s)))
+cuts_of_requires c κs = let s = c.before.before.before.before.before.before in (limits _ s.requires.0.table, (numbered s, (few s, (counted _ s.requires.1.1.counted).few, inside s)))
 
 slice_reshare_prefix_judge_replaced : tie.Need-slice_bounds-judge_replaced-end
 slice_reshare_prefix_judge_replaced c = search rules
 
 slice_aggregate_judge_replaced : tie.Need-slice_bounds-judge_replaced-end-2
-slice_aggregate_judge_replaced c = sym (tree_long c.before.before.before.before.before.before.before.before.before)
+slice_aggregate_judge_replaced c = sym (tree_long c.before.before.before.before.before.before.before)
 
 judge_replaced_requires : tie.Need-judge_replaced-requires
 judge_replaced_requires c κs = aimed c.before
@@ -111,10 +111,10 @@ enum_told : tie.Need-enum_told-1
 enum_told c = search rules
 
 place_row_requires : tie.Need-place_row-count-requires
-place_row_requires c κs = let s = c.before.before.before.before.before.before.before.before.before.before.before.before.before.before.before.before in let g = s.requires.0 in (splices _ _ _ _ _ _ (aimed c.before.before.before.before.before.before.before.before) (none_row c.before.before.before.before) _ (owned s), ((g.within.nodes, g.room.productions, g.room.owns), (g.room.sets, g.room.earlier)))
+place_row_requires c κs = let s = c.before.before.before.before.before.before.before.before.before.before.before.before.before in let g = s.requires.0 in (splices _ _ _ _ _ _ (aimed c.before.before.before.before.before.before.before.before) (none_row c.before.before.before.before) _ (owned s), ((g.within.nodes, g.room.productions, g.room.owns), (g.room.sets, g.room.earlier)))
 
 shift_points_requires : tie.Need-shift_points-requires
-shift_points_requires c κs = let s = c.before.before.before.before.before.before.before.before.before.before.before.before.before.before.before.before.before.before.before.before.before.before.before.before.before in shiftable _ (memory s) s.args.«record» s.args.points s.args.new.now s.args.new-owns.now (holding s) s.requires.1.1 (tree_long s) _ (aimed c.before.before.before.before.before.before.before.before.before.before.before.before.before.before.before.before.before) (zero_all c.before.before.before.before.before.before.before.before.before.before.before.before.before)
+shift_points_requires c κs = let s = c.before.before.before.before.before.before.before.before.before.before.before.before.before.before.before.before.before.before.before.before.before.before in shiftable _ (memory s) s.args.«record» s.args.points s.args.new.now s.args.new_owns.now (holding s) s.requires.1.1 (tree_long s) _ (aimed c.before.before.before.before.before.before.before.before.before.before.before.before.before.before.before.before.before) (zero_all c.before.before.before.before.before.before.before.before.before.before.before.before.before)
 
 just_opened_requires : tie.Need-just_opened-next-requires
 just_opened_requires c κs = search rules
@@ -135,13 +135,13 @@ same_length_4 : tie.Need-shape_of-earlier
 same_length_4 c = search rules
 
 returns : tie.Need-returns-in-Sound
-returns c = let s = c.before.before.before.before.before.before.before.before.before.before.before.before.before.before.before.before.before.before.before.before.before.before.before.before.before.before.before in row_carried _ (memory s) s.args.«record» s.args.points s.args.new.now s.args.new-owns.now (holding s) s.requires.1.1 (tree_long s) _ (aimed c.before.before.before.before.before.before.before.before.before.before.before.before.before.before.before.before.before.before.before) (zero_all c.before.before.before.before.before.before.before.before.before.before.before.before.before.before.before) _ _ _ _ c.before.before.before.before.before.before.before.before.before.before.place_row-count.ensures.0 c.before.shift_points.ensures c.just_opened-next.ensures c.before.before.before.before.before.before.before.before.before.before.place_row-count.ensures.1
+returns c = let s = c.before.before.before.before.before.before.before.before.before.before.before.before.before.before.before.before.before.before.before.before.before.before.before.before in row_carried _ (memory s) s.args.«record» s.args.points s.args.new.now s.args.new_owns.now (holding s) s.requires.1.1 (tree_long s) _ (aimed c.before.before.before.before.before.before.before.before.before.before.before.before.before.before.before.before.before.before.before) (zero_all c.before.before.before.before.before.before.before.before.before.before.before.before.before.before.before) _ _ _ _ c.before.before.before.before.before.before.before.before.before.before.place_row-count.ensures.0 c.before.shift_points.ensures c.just_opened-next.ensures c.before.before.before.before.before.before.before.before.before.before.place_row-count.ensures.1
 
 same_length_5 : tie.Need-shape_of-held-in-Refused
 same_length_5 c = search rules
 
 returns_2 : tie.Need-returns-in-Refused
-returns_2 c = let s = c.before.before.before.before.before.before.before.before.before.before.before.before.before in row_refused _ (memory s) s.args.«record» s.args.points s.args.new.now s.args.new-owns.now (holding s) s.requires.1.1 (tree_long s) c.before.r.given.0.0 (refused_number c.before.r.given.1 c.before.before.before.judge_replaced.ensures)
+returns_2 c = let s = c.before.before.before.before.before.before.before.before.before in row_refused _ (memory s) s.args.«record» s.args.points s.args.new.now s.args.new_owns.now (holding s) s.requires.1.1 (tree_long s) c.before.r.given.0.0 (refused_number c.before.r.given.1 c.before.before.before.judge_replaced.ensures)
 
 pub exchange_row_spec : {M : Type 1} → statement M
 exchange_row_spec =

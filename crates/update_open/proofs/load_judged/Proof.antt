@@ -18,7 +18,7 @@ abbrev memory : tie.Start → Memory
 memory s = lent s.args.held.now s.args.held_owns.now s.args.sets.now s.args.earlier.now
 
 abbrev start : tie.In-Sound → tie.Start
-start c = c.before.before.before.before.before.before.before.before.before
+start c = c.before.before.before.before.before.before.before.before
 
 none : (c : tie.In-Sound) → refusal_by (new_order (start c).args.table.now (start c).args.«record» (start c).args.productions.now (start c).args.owns.now ++ waiver_order (start c).args.table.now (start c).args.productions.now) ≡ 0
 none c = sound_zero c.enum_told.given.1 c.before.before.judge_loaded.ensures

@@ -31,7 +31,7 @@ same_length_4 : tie.Need-shape_of-earlier
 same_length_4 c = search rules
 
 returns : tie.Need-returns
-returns c = let s = c.before.before.before.before.before.before.before.before.before.before.before.before.before.before.before.before.before.before.before.before in c.before.before.before.before.before.before.before.before.replace_points.ensures ∙ ap (λ (p : Places). points_call s.args.table.now (memory s) s.args.«record» (handed_row (named_points p) s.args.new.now s.args.new-owns.now)) c.before.before.before.before.before.before.before.before.before.before.before.before.before.one_point-points.ensures ∙ one_call s.args.table.now (memory s) s.args.«record» s.args.point s.args.new.now s.args.new-owns.now
+returns c = let s = c.before.before.before.before.before.before.before.before.before.before.before.before.before.before.before.before.before.before.before.before in c.before.before.before.before.before.before.before.before.replace_points.ensures ∙ ap (λ (p : Places). points_call s.args.table.now (memory s) s.args.«record» (handed_row (named_points p) s.args.new.now s.args.new_owns.now)) c.before.before.before.before.before.before.before.before.before.before.before.before.before.one_point-points.ensures ∙ one_call s.args.table.now (memory s) s.args.«record» s.args.point s.args.new.now s.args.new_owns.now
 
 pub replace_spec : {M : Type 1} → statement M
 replace_spec =

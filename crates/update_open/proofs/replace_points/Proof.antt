@@ -18,7 +18,7 @@ enum_told : tie.Need-enum_told-1
 enum_told c = search rules
 
 replace_points_judged_requires : tie.Need-replace_points_judged-requires
-replace_points_judged_requires c κs = let s = c.before.before.before.before.before.before.before.before.before.before.before.before.before.before.before.before.before in let k = aimed_at s.args.table.now (memory s) s.args.«record» (bare_row (named_points s.args.points)) (sound_zero c.before.before.before.before.enum_told.given.1 c.before.before.before.before.before.before.judge_aim.ensures) in record { ground = k.ground; tree = λ h. k.tree }
+replace_points_judged_requires c κs = let s = c.before.before.before.before.before.before.before.before.before.before.before.before in let k = aimed_at s.args.table.now (memory s) s.args.«record» (bare_row (named_points s.args.points)) (sound_zero c.before.before.before.before.enum_told.given.1 c.before.before.before.before.before.before.judge_aim.ensures) in record { ground = k.ground; tree = λ h. k.tree }
 
 enum_known_r : tie.Need-enum_known-r
 enum_known_r c = search rules
@@ -51,7 +51,7 @@ same_length_8 : tie.Need-shape_of-earlier-in-Refused
 same_length_8 c = search rules
 
 returns_2 : tie.Need-returns-in-Refused
-returns_2 c = let s = c.before.before.before.before.before.before.before.before.before.before.before.before.before.before in aim_refused s.args.table.now (memory s) s.args.«record» s.args.points s.args.new.now s.args.new-owns.now c.before.r.given.0.0 (refused_number c.before.r.given.1 c.before.before.before.judge_aim.ensures)
+returns_2 c = let s = c.before.before.before.before.before.before.before.before in aim_refused s.args.table.now (memory s) s.args.«record» s.args.points s.args.new.now s.args.new-owns.now c.before.r.given.0.0 (refused_number c.before.r.given.1 c.before.before.before.judge_aim.ensures)
 
 pub replace_points_spec : {M : Type 1} → statement M
 replace_points_spec =

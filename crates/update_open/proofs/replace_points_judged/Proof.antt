@@ -18,7 +18,7 @@ enum_told : tie.Need-enum_told-1
 enum_told c = search rules
 
 exchange_row_requires : tie.Need-exchange_row-requires
-exchange_row_requires c κs = let s = c.before.before.before.before.before.before.before.before.before.before.before.before.before in let k = named s.args.table.now (memory s) s.args.«record» (bare_row (named_points s.args.points)) (sound_zero c.before.before.before.before.enum_told.given.1 c.before.before.before.before.before.before.judge_named.ensures) in (s.requires.ground, (s.requires.tree k.held, k))
+exchange_row_requires c κs = let s = c.before.before.before.before.before.before.before.before.before.before.before.before in let k = named s.args.table.now (memory s) s.args.«record» (bare_row (named_points s.args.points)) (sound_zero c.before.before.before.before.enum_told.given.1 c.before.before.before.before.before.before.judge_named.ensures) in (s.requires.ground, (s.requires.tree k.held, k))
 
 enum_known_r : tie.Need-enum_known-r
 enum_known_r c = search rules
@@ -39,7 +39,7 @@ returns : tie.Need-returns-in-Sound
 returns c = search rules
 
 returns_2 : tie.Need-returns-in-Refused
-returns_2 c = let s = c.before.before.before.before.before.before.before.before.before.before in named_refused s.args.table.now (memory s) s.args.«record» s.args.points s.args.new.now s.args.new-owns.now s.requires c.before.r.given.0.0 (refused_number c.before.r.given.1 c.before.before.before.judge_named.ensures)
+returns_2 c = let s = c.before.before.before.before.before.before.before.before in named_refused s.args.table.now (memory s) s.args.«record» s.args.points s.args.new.now s.args.new_owns.now s.requires c.before.r.given.0.0 (refused_number c.before.r.given.1 c.before.before.before.judge_named.ensures)
 
 pub replace_points_judged_spec : {M : Type 1} → statement M
 replace_points_judged_spec =

@@ -62,7 +62,7 @@ module _ (e : tie.Else-count-i invariant_loop decreases_loop) where
   i = l.loop-i.i
 
   turns : i < 4
-  turns = e.before.loop-i-test.taken
+  turns = e.before.loop-i-test.true
 
   within : i < defined (t o) (p o) o.args.at
   within = omega (arith, e.if-count-i.left, (sets o).every)

@@ -57,7 +57,7 @@ first c κs =
     let i = d.before.before in
     let s = top i in
     let k = i.before.loop-q in
-    (s.requires.0, (i.loop-q-test.taken, (beyond_is, (d.name_children-children.ensures.0, (stay_room (stay_trans (marked i.before.before).blank.ensures.1 k.invariant.3) s.requires.1.1, k.invariant.2)))))
+    (s.requires.0, (i.loop-q-test.true, (beyond_is, (d.name_children-children.ensures.0, (stay_room (stay_trans (marked i.before.before).blank.ensures.1 k.invariant.3) s.requires.1.1, k.invariant.2)))))
 
 others : tie.Need-wire_children-requires invariant_loop decreases_loop
 others c κs =
@@ -66,7 +66,7 @@ others c κs =
     let i = d.before.before in
     let s = top i in
     let e = w.wire_left.ensures in
-    (s.requires.0, (i.loop-q-test.taken, (d.name_children-children.ensures.1, (beyond_is, (d.name_children-children.ensures.0, (stay_room (stay_trans (marked i.before.before).blank.ensures.1 (stay_trans i.before.loop-q.invariant.3 e.1)) s.requires.1.1, e.0))))))
+    (s.requires.0, (i.loop-q-test.true, (d.name_children-children.ensures.1, (beyond_is, (d.name_children-children.ensures.0, (stay_room (stay_trans (marked i.before.before).blank.ensures.1 (stay_trans i.before.loop-q.invariant.3 e.1)) s.requires.1.1, e.0))))))
 
 -- the node that the next follows
 abbrev done : tie.After-named-in-loop-q-4-1 invariant_loop decreases_loop → tie.After-wire_children invariant_loop decreases_loop
@@ -79,7 +79,7 @@ next : tie.Need-name_next-requires invariant_loop decreases_loop
 next c κs =
     let d = before c in
     let i = d.before.before in
-    (omega (arith, i.loop-q-test.taken, (top i).requires.0.few), d.name_children-children.ensures.0.own)
+    (omega (arith, i.loop-q-test.true, (top i).requires.0.few), d.name_children-children.ensures.0.own)
 
 again : tie.Need-loop-q-preserved invariant_loop decreases_loop
 again c =
@@ -87,7 +87,7 @@ again c =
     let i = (before c.before).before.before in
     let f = (lefts w.before).wire_left.ensures in
     let e = w.wire_children.ensures in
-    (omega (arith, i.loop-q-test.taken), c.name_next.ensures, e.0, stay_trans i.before.loop-q.invariant.3 (stay_trans f.1 e.1))
+    (omega (arith, i.loop-q-test.true), c.name_next.ensures, e.0, stay_trans i.before.loop-q.invariant.3 (stay_trans f.1 e.1))
 
 -- from the start to the end
 stays : (c : tie.After-loop-q invariant_loop decreases_loop) →

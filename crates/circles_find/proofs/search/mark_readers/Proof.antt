@@ -78,10 +78,10 @@ loop_again c =
     let i = (wd d).before.before in
     let g = (swept d).1 in (
       (swept d).0,
-      done_more (wd d).wide.result (g.same i.before.loop-head.head i.loop-head-test.taken ∙ sym (wd d).wide.ensures)
+      done_more (wd d).wide.result (g.same i.before.loop-head.head i.loop-head-test.true ∙ sym (wd d).wide.ensures)
           (λ z e. d.sweep-tail.ensures.all z e.0 e.1)
           (done_kept i.before.loop-head.invariant.2 g i.before.loop-head.invariant.1),
-      omega (arith, g.longer, i.loop-head-test.taken),
+      omega (arith, g.longer, i.loop-head-test.true),
       d.sweep-tail.kept.queue ∙ i.before.loop-head.invariant.3,
     )
 

@@ -68,7 +68,7 @@ loop_again c =
     let k = looked c in
     let l = at k in
     let s = start l in
-    let el = k.before.before.before.loop-e-test.taken in (
+    let el = k.before.before.before.loop-e-test.true in (
       look (l.loop-e.e / 2) (arg_of_lem s.args.n s.args.a.now s.args.b.now l.loop-e.e s.args.v s.requires.0 el s.requires.1 (l.loop-e.invariant.1.hit el)) l.loop-e.invariant.0 k.look-t.ensures,
       seen_more c.wide-e-in-loop-e.result el l.loop-e.invariant.1 (kept k) (next_look c),
       (kept k).room,

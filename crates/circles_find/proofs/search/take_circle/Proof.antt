@@ -9,11 +9,11 @@ use Rattle.circles_find.proofs.search.take_circle.Statement.{statement}
 use Rattle.circles_find.proofs.search.take_circle.Tie as tie
 
 mark_readers_requires : tie.Need-mark_readers-t-requires
-mark_readers_requires c κs = let s = c.before.before.before.before.before.before.before.before in let g = s.args in let p = s.requires in
+mark_readers_requires c κs = let s = c.before.before.before.before.before.before.before in let g = s.args in let p = s.requires in
     ((p.0.0, p.1.0.0.long, clean_marks g.n p.0.0 g.a.now g.b.now g.x g.rep.now p.1.0.0 p.1.1.0 p.1.1.1 g.seen.now p.1.0.1, p.1.0.1.long, p.1.0.3), p.0.1)
 
 abbrev start : tie.After-mark_readers-t → tie.Start
-start c = c.before.before.before.before.before.before.before.before.before
+start c = c.before.before.before.before.before.before.before.before
 
 -- the marks of the first search
 abbrev seen : tie.After-mark_readers-t → List ℕ

@@ -21,7 +21,7 @@ loop_holds : tie.Need-loop-i-init invariant_loop decreases_loop
 loop_holds c = (omega arith, omega arith, λ y h k. absurd (omega arith))
 
 mul_if1 : tie.Need-offset_bounds-rep-wide invariant_loop decreases_loop
-mul_if1 c = omega (arith, slot c, c.before.before.before.before.before.before.well-formed.1.1.0.1)
+mul_if1 c = omega (arith, slot c, c.before.before.before.before.before.before.well_formed.1.1.0.1)
 
 shared_slice_read_if1 : tie.Need-bounds-rep-wide invariant_loop decreases_loop
 shared_slice_read_if1 c = slot c.before

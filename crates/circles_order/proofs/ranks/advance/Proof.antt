@@ -1,7 +1,7 @@
 -- `advance` meets its contract: all members passed are free. Assumes nothing.
 use Rattle.circles_order.proofs.Cursors.{Going, next_member, going_on, args_marked}
 use Rattle.circles_order.specs.Inner.Turns.{Free}
-use borrow.Author.Tests.{not_true, not_false}
+use borrow.Author.Tests.{not-true, not-false}
 use lib.ListN.{get_or}
 use mathlib.Core.Path.{◌≡◌, sym, ap, subst, ◌∙◌}
 use Prim.Native.Nat.{ℕ, ◌-◌, ◌<◌}
@@ -36,7 +36,7 @@ returns c = let f = c.before in let l = c.before.before.before.before in let g =
     record {
       from = l.loop-e.invariant.from;
       past = l.loop-e.invariant.past;
-      stop = λ h. (l.loop-e.invariant.at h, subst (λ (u : ℕ). Free g.n g.a.now g.b.now g.label.now g.taken.now g.l u → ⊥) c.before.before.wide.ensures (f.free.ensures.if_false (not_true f.free.result c.if-not-free.true)));
+      stop = λ h. (l.loop-e.invariant.at h, subst (λ (u : ℕ). Free g.n g.a.now g.b.now g.label.now g.taken.now g.l u → ⊥) c.before.before.wide.ensures (f.free.ensures.if_false (not-true f.free.result c.if-not-free.true)));
     }
 
 mul_e : tie.Need-offset_bounds-after-wide invariant_loop decreases_loop
@@ -53,7 +53,7 @@ loop_again : tie.Need-loop-e-preserved invariant_loop decreases_loop
 loop_again c = let s = c.before.before.before.before.before.before.before.before.before.before in let g = s.args in let l = c.before.before.before.before.before.before in let f = c.before.before.before in
     subst (λ (u : ℕ). Going g.n g.a.now g.b.now g.label.now g.taken.now g.after.now g.l g.x u) (sym (ap (λ (u : ℕ). get_or g.after.now u 0) c.before.wide-in-loop-e.ensures))
     (going_on g.n g.a.now g.b.now g.label.now g.taken.now g.after.now g.l g.x s.requires.0 s.requires.3 l.loop-e.e l.loop-e.invariant (member c.before.before.before.before.before)
-    (subst (λ (u : ℕ). Free g.n g.a.now g.b.now g.label.now g.taken.now g.l u) c.before.before.before.before.wide.ensures (f.free.ensures.if_true (not_false f.free.result c.before.before.if-not-free.false))))
+    (subst (λ (u : ℕ). Free g.n g.a.now g.b.now g.label.now g.taken.now g.l u) c.before.before.before.before.wide.ensures (f.free.ensures.if_true (not-false f.free.result c.before.before.if-not-free.false))))
 
 returns_2 : tie.Need-returns invariant_loop decreases_loop
 returns_2 c = let l = c.before.loop-e in

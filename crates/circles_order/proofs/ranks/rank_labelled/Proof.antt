@@ -6,11 +6,11 @@ use Rattle.circles_order.proofs.ranks.rank_labelled.Statement.{statement}
 use Rattle.circles_order.proofs.ranks.rank_labelled.Tie as tie
 
 start_turns_requires : tie.Need-start_turns-requires
-start_turns_requires c κs = let s = c.before.before.before.before.before.before.before.before.before.before.before.before.requires in let g = c.before.before.before.before.before.before.before.before.before.before.before.before.args in
+start_turns_requires c κs = let s = c.before.before.before.before.before.before.before.before.before.before.before.requires in let g = c.before.before.before.before.before.before.before.before.before.before.before.args in
     (s.0.1, covered s.0.0 s.0.2, outset_new g.n g.taken.now g.cur.now s.1.0.1 s.1.0.2 s.1.0.3, s.1.0.0)
 
 take_circles_requires : tie.Need-take_circles-requires
-take_circles_requires c κs = let s = c.before.before.before.before.before.before.before.before.before.before.before.before.before.before.before.before.before.before.before.before.requires in (s.0, ((c.before.before.before.before.before.before.before.start_turns.ensures, s.1.0.2), (s.1.1.0, s.1.1.1)))
+take_circles_requires c κs = let s = c.before.before.before.before.before.before.before.before.before.before.before.before.before.before.before.before.before.before.before.requires in (s.0, ((c.before.before.before.before.before.before.before.start_turns.ensures, s.1.0.2), (s.1.1.0, s.1.1.1)))
 
 same_length : tie.Need-shape_of-taken
 same_length c = c.before.before.before.before.before.before.before.before.take_circles.auto.taken

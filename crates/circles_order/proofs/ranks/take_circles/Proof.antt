@@ -95,7 +95,7 @@ slice_write_ends_2 : tie.Need-bounds-ends-count invariant_loop decreases_loop
 slice_write_ends_2 c = omega (arith, wide_ends c.before.before.before.before)
 
 retire_circle_requires : tie.Need-retire_circle-requires invariant_loop decreases_loop
-retire_circle_requires c κs = let s = c.before.before.before.before.before.before.before.before.before.before.before.before.before.before.before.before.before.before.before.before in let g = s.args in let e = c.before.before.before.before.before.before.before in let l = c.before.before.before.before.before.before.before.before.before.before.before.loop-count in let q = c.before.before.before.before.before.before.before.before.pull-l in (
+retire_circle_requires c κs = let s = c.before.before.before.before.before.before.before.before.before.before.before.before.before.before.before.before.before.before.before in let g = s.args in let e = c.before.before.before.before.before.before.before in let l = c.before.before.before.before.before.before.before.before.before.before.before.loop-count in let q = c.before.before.before.before.before.before.before.before.pull-l in (
   (e.if-n-l.false, s.requires.0.3, s.requires.0.1, covered s.requires.0.0 s.requires.0.2, simp length-set l.invariant.0.flags),
   (cursors_then g.n g.a.now g.b.now g.label.now g.after.now l.taken l.cur l.ready q.new.0 q.result s.requires.0.1 l.invariant.0 (small e) q.ensures, q.ensures.bits, (leads e).1),
 )
@@ -104,7 +104,7 @@ loop_less : tie.Need-loop-count-smaller invariant_loop decreases_loop
 loop_less c = omega (arith, c.before.before.before.before.before.before.before.before.before.before.before.before.before.loop-count-test.true)
 
 loop_again : tie.Need-loop-count-preserved invariant_loop decreases_loop
-loop_again c = let s = c.before.before.before.before.before.before.before.before.before.before.before.before.before.before.before.before.before.before.before.before.before.before.before in let g = s.args in let e = c.before.before.before.before.before.before.before.before.before.before in let l = c.before.before.before.before.before.before.before.before.before.before.before.before.before.before.loop-count in let q = c.before.before.before.before.before.before.before.before.before.before.before.pull-l in let d = c.before.before.before.before.before.before.before.before.lay_circle-pos in let r = c.before.before.retire_circle in (
+loop_again c = let s = c.before.before.before.before.before.before.before.before.before.before.before.before.before.before.before.before.before.before.before.before.before.before in let g = s.args in let e = c.before.before.before.before.before.before.before.before.before.before in let l = c.before.before.before.before.before.before.before.before.before.before.before.before.before.before.loop-count in let q = c.before.before.before.before.before.before.before.before.before.before.before.pull-l in let d = c.before.before.before.before.before.before.before.before.lay_circle-pos in let r = c.before.before.retire_circle in (
   turn_then g.n g.a.now g.b.now g.label.now g.after.now l.taken l.cur l.ready q.new.0 q.result s.requires.0.1 l.invariant.0 (small e) q.ensures (covered s.requires.0.0 s.requires.0.2) r.new.1.1.1.1.1.1.1.1.1.0 r.new.1.1.1.1.1.1.1.1.1.1.0 r.ensures.0 r.ensures.1,
   subst₃ (λ m p v. Going g.n g.a.now g.b.now (set l.taken q.result 1) g.members.now (set g.ends.now 0 0) m (set l.ends (l.count + 1) p) (l.count + 1) v) (sym d.ensures.0) (sym d.ensures.1) (sym d.ensures.1)
       (going_more g.n g.a.now g.b.now g.label.now g.after.now l.taken l.cur l.ready q.new.0 g.members.now (set g.ends.now 0 0) l.members l.ends l.count l.pos q.result s.requires.0.0 s.requires.0.1 s.requires.0.2 l.invariant.0 q.ensures l.invariant.1 e.if-n-l.false c.before.before.before.before.before.before.before.before.before.before.before.before.before.loop-count-test.true s.requires.1.1.0 (omega (arith, length-set g.ends.now 0 0, s.requires.1.1.1))),

@@ -21,7 +21,7 @@ abbrev memory : tie.Start → Memory
 memory s = lent s.args.held.now s.args.held_owns.now s.args.sets.now s.args.earlier.now
 
 abbrev start : tie.In-Sound → tie.Start
-start c = c.before.before.before.before.before.before.before
+start c = c.before.before.before.before.before.before
 
 sound : (c : tie.In-Sound) → Looked (start c).args.table.now (memory (start c)) (start c).args.«record»
 sound c = looked (start c).args.table.now (memory (start c)) (start c).args.«record» (sound_zero c.enum_told.given.1 c.before.before.judge_look.ensures)

@@ -19,14 +19,14 @@ memory s = lent s.args.held.now s.args.held_owns.now s.args.sets.now s.args.earl
 
 -- where the buffers have passed
 abbrev begins : tie.Else-is_narrow → tie.Start
-begins e = e.before.before.before.before.before.before.before.before.before.before.before.before.before.before.before.before.before.before.before.before.before
+begins e = e.before.before.before.before.before.before.before.before.before.before.before.before.before.before.before
 
 wide : (e : tie.Else-is_narrow) → let a = (begins e).args in Wide a.words.now a.window.now a.parts.now a.part_owns_lem.now (memory (begins e)) a.out.now
 wide e = e.before.is_narrow.ensures.yes (ap not e.if-is_narrow.false)
 
 returns : tie.Need-returns-then-is_narrow
 returns c =
-    let s = c.before.before.before.before.before.before.before.before.before.before.before.before.before.before.before.before.before.before.before.before.before.before in
+    let s = c.before.before.before.before.before.before.before.before.before.before.before.before.before.before.before.before in
     let a = s.args in
     rw c.refuse.ensures (refuses (given_short (suspended a.words.now a.window.now a.parts.now a.part_owns_lem.now (memory s) a.state) a.out.now (tested_not c.before.before.is_narrow.ensures (ap not c.before.if-is_narrow.true))) refl refl)
 

@@ -4,7 +4,7 @@ use Rattle.session_memory.proofs.Deciding.{tested_not}
 use Rattle.session_feed.specs.Running.{moment}
 use Rattle.session_feed.specs.Inner.Faring.{Fares, Sized, to_do}
 use Rattle.session_memory.specs.Suspended.{suspended}
-use borrow.Author.Tests.{not_true, not_false}
+use borrow.Author.Tests.{not-true, not-false}
 use native.Mathlib.Omega.{arith}
 use borrow.Author.Rules.{rules}
 use mathlib.Core.Path.{◌∙◌}
@@ -54,14 +54,14 @@ same_length_8 c = c.before.before.before.before.out.given ∙ fares_out c.before
 returns : tie.Need-returns-then-not-t invariant_loop decreases_loop
 returns c =
     let t = c.before.before.before.before.before.before.before.before.before.before.before.before.before.before.before.before.before.before.before.turn-t.ensures in
-    let e = not_true c.before.before.before.before.before.before.before.before.before.before.before.before.before.before.before.before.before.before.before.turn-t.result.more c.if-not-t.true in
+    let e = not-true c.before.before.before.before.before.before.before.before.before.before.before.before.before.before.before.before.before.before.before.turn-t.result.more c.if-not-t.true in
     (fed_all (fares_on c.before.before.before.before.before.before.before.before.before.before.before.before.before.before.before.before.before.before.before.before.before.before.before.before.before.before.before.before.before.before.before.loop-table.invariant.0 t.fares) c.before.before.before.before.before.before.before.before.before.before.before.before.before.before.before.before.before.before.before.before.before.before.before.before.before.before.before.before.before.before.before.loop-table.invariant.2.size (since_last c.before.before.before.before.before.before.before.before.before.before.before.before.before.before.before.before.before.before.before.before.before.before.before.before.before.before.before.before.before.before.before.loop-table.invariant.2 (record { room = c.before.before.before.before.before.before.before.before.before.before.before.before.before.before.before.before.before.before.before.before.before.before.before.before.before.before.before.before.before.before.has_room.ensures.yes c.before.before.before.before.before.before.before.before.before.before.before.before.before.before.before.before.before.before.before.before.before.before.before.before.before.before.before.before.before.loop-table-test.true }) t e) (t.idle e) (t.used e), t.fares.ready.size)
 
 loop_less : tie.Need-loop-table-smaller invariant_loop decreases_loop
-loop_less c = c.before.before.before.before.before.before.before.before.before.before.before.before.before.before.before.before.before.before.before.turn-t.ensures.falls (not_false c.before.before.before.before.before.before.before.before.before.before.before.before.before.before.before.before.before.before.before.turn-t.result.more c.if-not-t.false)
+loop_less c = c.before.before.before.before.before.before.before.before.before.before.before.before.before.before.before.before.before.before.before.turn-t.ensures.falls (not-false c.before.before.before.before.before.before.before.before.before.before.before.before.before.before.before.before.before.before.before.turn-t.result.more c.if-not-t.false)
 
 loop_again : tie.Need-loop-table-preserved invariant_loop decreases_loop
-loop_again c = (fares_on c.before.before.before.before.before.before.before.before.before.before.before.before.before.before.before.before.before.before.before.before.before.before.before.before.before.before.before.before.before.before.before.loop-table.invariant.0 c.before.before.before.before.before.before.before.before.before.before.before.before.before.before.before.before.before.before.before.turn-t.ensures.fares, sized_on c.before.before.before.before.before.before.before.before.before.before.before.before.before.before.before.before.before.before.before.before.before.before.before.before.before.before.before.before.before.before.before.loop-table.invariant.1 (record { window = c.before.before.before.before.before.before.before.before.before.before.before.before.before.before.before.before.before.before.window.given; parts = c.before.before.before.before.before.before.before.before.before.before.before.before.before.before.before.before.parts.given; part_owns_lem = c.before.before.before.before.before.before.before.before.before.before.before.before.before.before.part_owns_lem.given; productions = c.before.before.before.before.before.before.before.before.before.before.before.before.held.given; owns = c.before.before.before.before.before.before.before.before.before.before.held_owns.given; sets_size = c.before.before.before.before.before.before.before.before.sets.given; earlier = c.before.before.before.before.before.before.earlier.given }), since_on c.before.before.before.before.before.before.before.before.before.before.before.before.before.before.before.before.before.before.before.before.before.before.before.before.before.before.before.before.before.before.before.loop-table.invariant.2 (record { room = c.before.before.before.before.before.before.before.before.before.before.before.before.before.before.before.before.before.before.before.before.before.before.before.before.before.before.before.before.before.before.has_room.ensures.yes c.before.before.before.before.before.before.before.before.before.before.before.before.before.before.before.before.before.before.before.before.before.before.before.before.before.before.before.before.before.loop-table-test.true }) c.before.before.before.before.before.before.before.before.before.before.before.before.before.before.before.before.before.before.before.turn-t.ensures (not_false c.before.before.before.before.before.before.before.before.before.before.before.before.before.before.before.before.before.before.before.turn-t.result.more c.if-not-t.false))
+loop_again c = (fares_on c.before.before.before.before.before.before.before.before.before.before.before.before.before.before.before.before.before.before.before.before.before.before.before.before.before.before.before.before.before.before.before.loop-table.invariant.0 c.before.before.before.before.before.before.before.before.before.before.before.before.before.before.before.before.before.before.before.turn-t.ensures.fares, sized_on c.before.before.before.before.before.before.before.before.before.before.before.before.before.before.before.before.before.before.before.before.before.before.before.before.before.before.before.before.before.before.before.loop-table.invariant.1 (record { window = c.before.before.before.before.before.before.before.before.before.before.before.before.before.before.before.before.before.before.window.given; parts = c.before.before.before.before.before.before.before.before.before.before.before.before.before.before.before.before.parts.given; part_owns_lem = c.before.before.before.before.before.before.before.before.before.before.before.before.before.before.part_owns_lem.given; productions = c.before.before.before.before.before.before.before.before.before.before.before.before.held.given; owns = c.before.before.before.before.before.before.before.before.before.before.held_owns.given; sets_size = c.before.before.before.before.before.before.before.before.sets.given; earlier = c.before.before.before.before.before.before.earlier.given }), since_on c.before.before.before.before.before.before.before.before.before.before.before.before.before.before.before.before.before.before.before.before.before.before.before.before.before.before.before.before.before.before.before.loop-table.invariant.2 (record { room = c.before.before.before.before.before.before.before.before.before.before.before.before.before.before.before.before.before.before.before.before.before.before.before.before.before.before.before.before.before.before.has_room.ensures.yes c.before.before.before.before.before.before.before.before.before.before.before.before.before.before.before.before.before.before.before.before.before.before.before.before.before.before.before.before.before.loop-table-test.true }) c.before.before.before.before.before.before.before.before.before.before.before.before.before.before.before.before.before.before.before.turn-t.ensures (not-false c.before.before.before.before.before.before.before.before.before.before.before.before.before.before.before.before.before.before.before.turn-t.result.more c.if-not-t.false))
 
 same_length_9 : tie.Need-shape_of-window invariant_loop decreases_loop
 same_length_9 c = c.before.before.loop-table.invariant.1.window

@@ -10,13 +10,13 @@ use Rattle.session_feed.proofs.feeding.hear_line.Tie as tie
 use Rattle.update.specs.Memories.{lent}
 
 slice_aggregate_frame_at : tie.Need-slice_bounds-frame_at-end
-slice_aggregate_frame_at c = sym (length-take-le c.before.before.before.before.before.before.before.before.before.before.args.begun c.before.before.before.before.before.before.before.before.before.before.args.window.now c.before.before.before.before.before.before.before.before.before.before.requires.1.1)
+slice_aggregate_frame_at c = sym (length-take-le c.before.before.before.before.before.before.before.before.before.args.begun c.before.before.before.before.before.before.before.before.before.args.window.now c.before.before.before.before.before.before.before.before.before.requires.1.1)
 
 returns : tie.Need-returns
 returns c =
-    let s = c.before.before.before.before.before.before.before.before.before.before.before.before.before.before.before.before.before.before.before.before.before.before.before.before.before.before.before.before.before.before.before.before.before.before in
+    let s = c.before.before.before.before.before.before.before.before.before.before.before.before.before.before.before.before.before.before.before.before.before.before.before.before.before.before.before.before.before.before.before.before.before in
     let a = s.args in
-    as_well (ap (λ (x : Step). hearing a.state.awaited x.frame a.state.line a.table.now a.parts.now a.part_owns_lem.now (lent a.held.now a.held_owns.now a.sets.now a.earlier.now) a.state.«record») (sym c.before.before.before.before.before.before.before.before.before.before.before.before.before.before.before.before.before.before.before.before.before.before.before.frame_at_lem.ensures)) c.before.before.before.before.before.before.before.before.before.before.before.before.before.before.hear.ensures
+    as_well (ap (λ (x : Step). hearing a.state.awaited x.frame a.state.line a.table.now a.parts.now a.part_owns.now (lent a.held.now a.held_owns.now a.sets.now a.earlier.now) a.state.«record») (sym c.before.before.before.before.before.before.before.before.before.before.before.before.before.before.before.before.before.before.before.before.before.before.before.frame_at_lem.ensures)) c.before.before.before.before.before.before.before.before.before.before.before.before.before.before.hear.ensures
 
 pub hear_line_spec : {M : Type 1} → statement M
 hear_line_spec =

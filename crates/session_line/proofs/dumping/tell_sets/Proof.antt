@@ -3,7 +3,7 @@ use Rattle.session_line.proofs.Dumps.{dump_busy, dump_absent, dump_sets, told_mo
 use Rattle.text_sets.proofs.Slots.{tellable}
 use Rattle.update.specs.Memories.{lent, Memory}
 use native.Mathlib.Omega.{arith}
-use borrow.Author.Tests.{not_true, not_false}
+use borrow.Author.Tests.{not-true, not-false}
 use lib.Seq.{sets}
 use lib.ListN.{length, take}
 use Prim.Native.Nat.{◌+◌, ◌*◌}
@@ -29,7 +29,7 @@ returns_2 c =
     let s = c.before.before.before.before.before.before.before.before.before.before.before.before.before in
     let a = s.args in
     let e = c.before.before.put_refusal-then-not-record.ensures in
-    let d = dump_absent a.table.now (memory s) a.«record» a.line s.requires.0 (sym c.before.before.before.before.before.before.before.is_open.ensures ∙ c.before.before.before.before.before.before.if-is_open.false) (not_true a.«record».held c.before.before.before.before.if-not-record.true) in
+    let d = dump_absent a.table.now (memory s) a.«record» a.line s.requires.0 (sym c.before.before.before.before.before.before.before.is_open.ensures ∙ c.before.before.before.before.before.before.if-is_open.false) (not-true a.«record».held c.before.before.before.before.if-not-record.true) in
     let p = told_refused 16 a.line a.printed _ a.out.now _ _ d e.0 e.1 in
     (refl, refl, p.0, p.1)
 
@@ -40,14 +40,14 @@ put_sets_requires c κs =
     let n = a.«record».nodes in
     let h = c.before.if-not-record.false in
     let k = s.requires.0 in
-    (tellable a.table.now (memory s) a.«record» k.ground (k.tree (not_false a.«record».held h)), omega (arith, told_most a.table.now (take n a.held.now) a.sets.now (8 * n) 0, k.ground.within.nodes, s.requires.1.room))
+    (tellable a.table.now (memory s) a.«record» k.ground (k.tree (not-false a.«record».held h)), omega (arith, told_most a.table.now (take n a.held.now) a.sets.now (8 * n) 0, k.ground.within.nodes, s.requires.1.room))
 
 returns_3 : tie.Need-returns
 returns_3 c =
     let s = c.before.before.before.before.before.before.before.before.before.before.before.before.before in
     let a = s.args in
     let e = c.before.before.put_sets.ensures in
-    let d = dump_sets a.table.now (memory s) a.«record» a.line s.requires.0 (sym c.before.before.before.before.before.before.before.is_open.ensures ∙ c.before.before.before.before.before.before.if-is_open.false) (not_false a.«record».held c.before.before.before.before.if-not-record.false) in
+    let d = dump_sets a.table.now (memory s) a.«record» a.line s.requires.0 (sym c.before.before.before.before.before.before.before.is_open.ensures ∙ c.before.before.before.before.before.before.if-is_open.false) (not-false a.«record».held c.before.before.before.before.if-not-record.false) in
     (refl, refl, e.0 ∙ ap (λ l. a.printed + length l) d, e.1 ∙ ap (sets a.out.now a.printed) d)
 
 pub tell_sets_spec : {M : Type 1} → statement M

@@ -19,28 +19,28 @@ room s = omega (arith, s.requires.1.2.room)
 
 hear_change_requires : tie.Need-hear_change-requires
 hear_change_requires c κs =
-    let s = c.before.before.before.before.before.before.before.before.before.before.before.before.before.before.before in
+    let s = c.before.before.before.before.before.before.before.before.before.before.before.before.before in
     (s.requires.0, (s.requires.1.0, s.requires.1.1, room s))
 
 returns : tie.Need-returns-in-Change
 returns c =
-    let s = c.before.before.before.before.before.before.before.before.before.before.before.before.before.before.before.before.before.before.before.before.before.before.before.before.before.before in
+    let s = c.before.before.before.before.before.before.before.before.before.before.before.before.before.before.before.before.before.before.before.before.before.before.before.before in
     let a = s.args in
     let g = c.before.before.before.before.before.before.before.before.before.before.before.before.before.before.before.before.before.frame.given in
     as_well (a_change a.table.now a.parts.now a.part_owns_lem.now (memory s) a.«record» a.frame a.line g.0.0 g.1) c.before.before.before.before.before.before.before.before.before.before.hear_change.ensures
 
 returns_2 : tie.Need-returns-in-Dump
 returns_2 c =
-    let s = c.before.before.before.before.before.before.before.before.before.before.before.before.before.before.before.before.before in
+    let s = c.before.before.before.before.before.before.before.before.before.before.before.before in
     let a = s.args in
     let e = c.before.before.tell_sets.ensures in
-    as_well (a_dump a.table.now a.parts.now a.part_owns_lem.now (memory s) a.«record» a.frame a.line c.before.before.before.before.before.before.before.before.enum_told.given.1) (record { awaited = e.0; next = e.1; place = e.2; shown = e.3; words_then = refl; parts_then = refl; owns_then = refl; memory = refl })
+    as_well (a_dump a.table.now a.parts.now a.part_owns.now (memory s) a.«record» a.frame a.line c.before.before.before.before.before.before.before.before.enum_told.given.1) (record { awaited = e.0; next = e.1; place = e.2; shown = e.3; words_then = refl; parts_then = refl; owns_then = refl; memory = refl })
 
 returns_3 : tie.Need-returns-in_default
 returns_3 c =
     let s = c.before.before.before.before.before.before.before.before.before.before.before.before in
     let a = s.args in
-    as_well (no_command a.table.now a.parts.now a.part_owns_lem.now (memory s) a.«record» a.frame a.line c.before.before.before.before.in-Change.keys3) (c.before.before.stop_at.ensures a.table.now a.parts.now a.part_owns_lem.now (memory s))
+    as_well (no_command a.table.now a.parts.now a.part_owns.now (memory s) a.«record» a.frame a.line c.before.before.before.before.in-Change.keys3) (c.before.before.stop_at.ensures a.table.now a.parts.now a.part_owns.now (memory s))
 
 pub hear_command_spec : {M : Type 1} → statement M
 hear_command_spec =

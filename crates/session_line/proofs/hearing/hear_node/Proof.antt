@@ -15,11 +15,11 @@ returns : tie.Need-returns-in_default
 returns c =
     let s = c.before.before.before.before.before.before.before.before.before.before.before.before in
     let a = s.args in
-    as_well (no_node a.table.now a.parts.now a.part_owns_lem.now (memory s) a.«record» a.coming a.count a.taken a.command a.frame a.line c.before.before.before.before.in-Node.keys2) (c.before.before.stop_at.ensures a.table.now a.parts.now a.part_owns_lem.now (memory s))
+    as_well (no_node a.table.now a.parts.now a.part_owns.now (memory s) a.«record» a.coming a.count a.taken a.command a.frame a.line c.before.before.before.before.in-Node.keys2) (c.before.before.stop_at.ensures a.table.now a.parts.now a.part_owns.now (memory s))
 
 returns_2 : tie.Need-returns-then-taken-count
 returns_2 c =
-    let s = c.before.before.before.before.before.before.before.before.before.before.before.before.before.before.before.before.before.before in
+    let s = c.before.before.before.before.before.before.before.before.before.before.before.before.before.before.before.before in
     let a = s.args in
     let g = c.before.before.before.before.before.before.before.before.before.frame.given in
     let e = c.before.before.before.before.before.keep_node.ensures in
@@ -27,7 +27,7 @@ returns_2 c =
 
 open_update_requires : tie.Need-open_update-requires
 open_update_requires c κs =
-    let s = c.before.before.before.before.before.before.before.before.before.before.before.before.before.before.before.before.before.before.before.before.before.before.before.before.before in
+    let s = c.before.before.before.before.before.before.before.before.before.before.before.before.before.before.before.before.before.before.before.before.before in
     let a = s.args in
     let p = s.requires.1 in
     let g = c.before.before.before.before.before.before.before.before.before.before.before.before.before.before.before.before.frame.given in
@@ -36,7 +36,7 @@ open_update_requires c κs =
 
 returns_3 : tie.Need-returns
 returns_3 c =
-    let s = c.before.before.before.before.before.before.before.before.before.before.before.before.before.before.before.before.before.before.before.before.before.before.before.before.before.before.before.before.before.before.before.before.before.before.before.before in
+    let s = c.before.before.before.before.before.before.before.before.before.before.before.before.before.before.before.before.before.before.before.before.before.before.before.before.before.before.before.before.before.before.before.before in
     let a = s.args in
     let g = c.before.before.before.before.before.before.before.before.before.before.before.before.before.before.before.before.before.before.before.before.before.before.before.before.before.before.before.frame.given in
     let e = c.before.before.before.before.before.before.before.before.before.before.before.before.before.before.before.before.before.before.before.before.before.before.before.keep_node.ensures in

@@ -15,13 +15,13 @@ returns : tie.Need-returns-then-count-eq0
 returns c =
     let s = c.before.before.before.before.before.before.before.before.before.before.before.before.before.before.before.before.before.before.before.before.before.before.before.before in
     let a = s.args in
-    as_well (no_nodes a.table.now a.parts.now a.part_owns_lem.now (memory s) a.«record» a.coming a.count a.line (omega (arith, c.before.before.before.before.before.before.before.before.before.before.before.before.before.before.before.before.if-count-eq0.true))) c.before.before.before.before.before.before.before.before.before.before.open_update.ensures
+    as_well (no_nodes a.table.now a.parts.now a.part_owns.now (memory s) a.«record» a.coming a.count a.line (omega (arith, c.before.before.before.before.before.before.before.before.before.before.before.before.before.before.before.before.if-count-eq0.true))) c.before.before.before.before.before.before.before.before.before.before.open_update.ensures
 
 returns_2 : tie.Need-returns
 returns_2 c =
     let s = c.before.before.before.before.before.before.before.before in
     let a = s.args in
-    as_well (some_nodes a.table.now a.parts.now a.part_owns_lem.now (memory s) a.«record» a.coming a.count a.line (λ (e : a.count ≡ 0). omega arith)) (silent a.table.now a.parts.now a.part_owns_lem.now (memory s) a.«record» _ a.printed a.out.now)
+    as_well (some_nodes a.table.now a.parts.now a.part_owns.now (memory s) a.«record» a.coming a.count a.line (λ (e : a.count ≡ 0). omega arith)) (silent a.table.now a.parts.now a.part_owns.now (memory s) a.«record» _ a.printed a.out.now)
 
 pub hear_order_spec : {M : Type 1} → statement M
 hear_order_spec =

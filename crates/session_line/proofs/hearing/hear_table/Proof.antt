@@ -7,7 +7,7 @@ use Rattle.session_line.proofs.hearing.hear_table.Tie as tie
 
 returns : tie.Need-returns-in-Next
 returns c = λ ps os m.
-    let a = c.before.before.before.before.before.before.before.before.args in
+    let a = c.before.before.before.before.before.before.args in
     let e = c.before.before.before.before.take_frame.ensures in
     let g = c.before.before.next.given in
     table_next _ _ ps os m a.printed a.out.now _ _ _ g.0.0 (sym e.0 ∙ g.1) e.1 c.awaited_of.ensures c.before.before.before.before.before.before.empty-none.ensures

@@ -11,20 +11,20 @@ memory s = lent s.args.held.now s.args.held_owns.now s.args.sets.now s.args.earl
 
 slice_aggregate_call_order : tie.Need-slice_bounds-call_order-end
 slice_aggregate_call_order c =
-    let s = c.before.before.before.before.before.before.before.before.before.before in
+    let s = c.before.before.before.before.before.before.before.before.before in
     taken_length s.args.parts.now s.args.count _ c.before.before.at_most-n.ensures s.requires.1.0
 
 slice_aggregate_call_order_2 : tie.Need-slice_bounds-call_order-end-2
 slice_aggregate_call_order_2 c =
-    let s = c.before.before.before.before.before.before.before.before.before.before.before in
-    taken_length s.args.part_owns_lem.now s.args.count _ c.before.before.before.at_most-n.ensures (omega (arith, s.requires.1.1))
+    let s = c.before.before.before.before.before.before.before.before.before in
+    taken_length s.args.part_owns.now s.args.count _ c.before.before.before.at_most-n.ensures (omega (arith, s.requires.1.1))
 
 put_refusal_requires : tie.Need-put_refusal-requires
-put_refusal_requires c κs = c.before.before.before.before.before.before.before.before.before.before.before.before.before.before.before.before.before.before.before.before.before.before.before.before.before.before.before.before.before.requires.1.2
+put_refusal_requires c κs = c.before.before.before.before.before.before.before.before.before.before.before.before.before.before.before.before.before.before.before.before.before.before.before.before.before.requires.1.2
 
 returns : tie.Need-returns-in-Sound
 returns c =
-    let s = c.before.before.before.before.before.before.before.before.before.before.before.before.before.before.before.before.before.before.before.before.before.before.before.before.before.before.before in
+    let s = c.before.before.before.before.before.before.before.before.before.before.before.before.before.before.before.before.before.before.before.before.before.before.before.before in
     let a = s.args in
     let k = c.before.before.before.before.before.before.before.before.before.before.before.before.before.before.before.before.before.before.before.at_most-n in
     let o = c.before.before.before.before.before.before.before.before.before.before.before.call_order-begun in
@@ -32,7 +32,7 @@ returns c =
 
 returns_2 : tie.Need-returns-in-Refused
 returns_2 c =
-    let s = c.before.before.before.before.before.before.before.before.before.before.before.before.before.before.before.before.before.before.before.before.before.before.before.before.before.before.before.before.before.before.before.before in
+    let s = c.before.before.before.before.before.before.before.before.before.before.before.before.before.before.before.before.before.before.before.before.before.before.before.before.before.before.before.before in
     let a = s.args in
     let k = c.before.before.before.before.before.before.before.before.before.before.before.before.before.before.before.before.before.before.before.before.before.before.before.before.at_most-n in
     let o = c.before.before.before.before.before.before.before.before.before.before.before.before.before.before.before.before.call_order-begun in

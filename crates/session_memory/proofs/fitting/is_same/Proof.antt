@@ -49,7 +49,7 @@ is_same_spec =
     (tie.spec
     (λ c. search rules)
     (λ c. search rules)
-    (λ c. headers c.before.before.before.before.args.a c.before.before.before.before.args.b c.before.before.enum_told.given.1 c.enum_told-in-AtHeader-b-1.given.1)
+    (λ c. headers c.before.before.args.a c.before.before.args.b c.before.before.enum_told.given.1 c.enum_told-in-AtHeader-b-1.given.1)
     (λ c. search rules)
     (λ c. search rules)
     (λ c. symbols _ _ _ _ c.before.before.before.before.a.given.1 c.before.b.given.1)

@@ -6,7 +6,7 @@ use mathlib.Core.Logic.{⊎_elim}
 use Prim.Native.Nat.{ℕ, ◌≤◌, ◌<◌}
 use native.Mathlib.Omega.{arith}
 use borrow.Author.Rules.{rules}
-use borrow.Author.Tests.{not_true, not_false, le-leb, lt-leb}
+use borrow.Author.Tests.{not-true, not-false, le-leb, lt-leb}
 use lib.ListN.{take}
 use Rattle.refusal.specs.Orders.{refusal_by}
 use Rattle.climb.proofs.Lists.{either}
@@ -80,17 +80,17 @@ memory s = lent s.args.held.now s.args.held_owns.now s.args.sets.now s.args.earl
 abbrev begins : tie.Else-not-is_begun → tie.Start
 begins e = e.before.before.before.before.before.before.before.before
 
-passes : (e : tie.Else-not-is_begun) (awaited : Awaited) (n : ℕ) → (begins e).args.state.awaited ≡ awaited → n ≡ refusal_by (awaited_order awaited (begins e).args.table.now (begins e).args.part_owns_lem.now (memory (begins e)) (begins e).args.state.«record»)
-    → n ≡ refusal_by (settled_order (begins e).args.state (begins e).args.table.now (begins e).args.window.now (begins e).args.part_owns_lem.now (memory (begins e)))
+passes : (e : tie.Else-not-is_begun) (awaited : Awaited) (n : ℕ) → (begins e).args.state.awaited ≡ awaited → n ≡ refusal_by (awaited_order awaited (begins e).args.table.now (begins e).args.part_owns.now (memory (begins e)) (begins e).args.state.«record»)
+    → n ≡ refusal_by (settled_order (begins e).args.state (begins e).args.table.now (begins e).args.window.now (begins e).args.part_owns.now (memory (begins e)))
 passes e awaited n h k =
     let a = (begins e).args in
-    settles a.state a.table.now a.window.now a.part_owns_lem.now (memory (begins e)) _ e.before.is_begun.ensures awaited n (not_false e.before.is_begun.result e.if-not-is_begun.false) h k
+    settles a.state a.table.now a.window.now a.part_owns.now (memory (begins e)) _ e.before.is_begun.ensures awaited n (not-false e.before.is_begun.result e.if-not-is_begun.false) h k
 
 returns : tie.Need-returns-then-not-is_begun
 returns c =
     let s = c.before.before.before.before.before.before.before.before in
     let a = s.args in
-    no_line a.state a.table.now a.window.now a.part_owns_lem.now (memory s) _ c.before.is_begun.ensures (not_true c.before.is_begun.result c.if-not-is_begun.true)
+    no_line a.state a.table.now a.window.now a.part_owns.now (memory s) _ c.before.is_begun.ensures (not-true c.before.is_begun.result c.if-not-is_begun.true)
 
 returns_2 : tie.Need-returns-then-is_misnamed
 returns_2 c =

@@ -6,10 +6,10 @@ use Rattle.session_owed.proofs.points.keep_point.Statement.{statement}
 use Rattle.session_owed.proofs.points.keep_point.Tie as tie
 
 returns : tie.Need-returns-then-taken-lt-POINTS
-returns c = let a = c.before.args in kept_own a.taken a.point a.count a.part_owns_lem.now (omega arith)
+returns c = let a = c.before.args in kept_own a.taken a.point a.count a.part_owns.now (omega arith)
 
 returns_2 : tie.Need-returns-else-taken-lt-POINTS
-returns_2 c = let a = c.before.before.args in kept_added a.taken a.point a.count a.part_owns_lem.now (omega arith)
+returns_2 c = let a = c.before.before.args in kept_added a.taken a.point a.count a.part_owns.now (omega arith)
 
 pub keep_point_spec : {M : Type 1} → statement M
 keep_point_spec =

@@ -19,7 +19,7 @@ unfolding occurs
 returns_2 c =
     let s = c.before.before.before.before in
     let h : s.args.q ≤ child_count s.args.table.now s.args.p = omega arith in
-    rw (le-leb _ _ h) (c.has_set_lem.ensures ∙ rw c.before.symbol_at.ensures)
+    rw (le-leb _ _ h) (c.has_set.ensures ∙ rw c.before.symbol_at.ensures)
 
 pub occurs_at_spec : {M : Type 1} → statement M
 unfolding occurs

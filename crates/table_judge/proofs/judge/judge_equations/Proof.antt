@@ -19,13 +19,13 @@ decreases_loop table p count q₀ q = count + 1 - q
 
 loop_again : tie.Need-loop-q-preserved invariant_loop decreases_loop
 loop_again c =
-    let a = c.before.before.before.before.before.before.args in
+    let a = c.before.before.before.before.before.args in
     let l = c.before.before.before.before.loop-q in
     (omega arith, goes (position_of a.table.now a.p) l.q c.enum_told.given.1 c.before.before.judge_position.ensures l.invariant.1)
 
 returns : tie.Need-returns-in-Refused invariant_loop decreases_loop
 returns c =
-    let a = c.before.before.before.before.before.before.before.args in
+    let a = c.before.before.before.before.before.args in
     let l = c.before.before.before.before.before.loop-q in
     stops (position_of a.table.now a.p) l.q (suc (child_count a.table.now a.p)) c.before.r.given.1 c.before.before.before.judge_position.ensures l.invariant.1 (omega arith)
 

@@ -19,13 +19,13 @@ decreases_loop table p q count k₀ k = count - k
 
 loop_again : tie.Need-loop-k-preserved invariant_loop decreases_loop
 loop_again c =
-    let a = c.before.before.before.before.before.before.args in
+    let a = c.before.before.before.before.before.args in
     let l = c.before.before.before.before.loop-k in
     (omega arith, goes (equation_number a.table.now a.p a.q) l.k c.enum_told.given.1 c.before.before.judge_equation.ensures l.invariant.1)
 
 returns : tie.Need-returns-in-Refused invariant_loop decreases_loop
 returns c =
-    let a = c.before.before.before.before.before.before.before.args in
+    let a = c.before.before.before.before.before.args in
     let l = c.before.before.before.before.before.loop-k in
     stops (equation_number a.table.now a.p a.q) l.k (defined a.table.now a.p a.q) c.before.r.given.1 c.before.before.before.judge_equation.ensures l.invariant.1 (omega arith)
 

@@ -19,13 +19,13 @@ decreases_loop table count p₀ p = count - p
 
 loop_again : tie.Need-loop-p-preserved invariant_loop decreases_loop
 loop_again c =
-    let a = c.before.before.before.before.before.before.args in
+    let a = c.before.before.before.before.before.args in
     let l = c.before.before.before.before.loop-p in
     (omega arith, goes (part_number a.table.now) l.p c.enum_told.given.1 c.before.before.judge_part.ensures l.invariant.1)
 
 returns : tie.Need-returns-in-Refused invariant_loop decreases_loop
 returns c =
-    let a = c.before.before.before.before.before.before.before.args in
+    let a = c.before.before.before.before.before.args in
     let l = c.before.before.before.before.before.loop-p in
     stops (part_number a.table.now) l.p (production_count a.table.now) c.before.r.given.1 c.before.before.before.judge_part.ensures l.invariant.1 (omega arith)
 

@@ -19,13 +19,13 @@ decreases_loop table count s₀ s = count - s
 
 loop_again : tie.Need-loop-s-preserved invariant_loop decreases_loop
 loop_again c =
-    let a = c.before.before.before.before.before.before.args in
+    let a = c.before.before.before.before.before.args in
     let l = c.before.before.before.before.loop-s in
     (omega arith, goes (symbol_number a.table.now) l.s c.enum_told.given.1 c.before.before.judge_symbol.ensures l.invariant.1)
 
 returns : tie.Need-returns-in-Refused invariant_loop decreases_loop
 returns c =
-    let a = c.before.before.before.before.before.before.before.args in
+    let a = c.before.before.before.before.before.args in
     let l = c.before.before.before.before.before.loop-s in
     stops (symbol_number a.table.now) l.s (symbol_count a.table.now) c.before.r.given.1 c.before.before.before.judge_symbol.ensures l.invariant.1 (omega arith)
 

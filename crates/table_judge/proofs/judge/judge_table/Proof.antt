@@ -16,7 +16,7 @@ use Rattle.table_judge.proofs.judge.judge_table.Tie as tie
 shape : tie.Need-judge_productions-requires
 shape c κs =
     let d = c.before.before.before in
-    let t = d.before.before.before.args.table.now in
+    let t = d.before.args.table.now in
     let h = holds t header (sound_zero d.enum_told.given.1 d.before.before.judge_header.ensures) in
     let n = sound_zero c.enum_told-in-Sound-judge_symbols-1.given.1 c.before.before.judge_symbols.ensures in
     symbols_of_lem t h (λ s l. holds t (symbol s) (scan_none (symbol_number t) (symbol_count t) n s l))
@@ -25,7 +25,7 @@ productions : tie.Need-returns-in-Sound-judge_symbols
 productions c =
     let b = c.before in
     let d = b.before.before.before in
-    let t = d.before.before.before.args.table.now in
+    let t = d.before.args.table.now in
     let h = or_goes (refusal_at t header) (or_else (symbols_of t) (productions_of t)) d.enum_told.given.1 d.before.before.judge_header.ensures in
     let n = or_goes (symbols_of t) (productions_of t) b.enum_told-in-Sound-judge_symbols-1.given.1 b.before.before.judge_symbols.ensures in
     c.judge_productions.ensures ∙ sym (judge_parts t ∙ h ∙ n)
@@ -33,13 +33,13 @@ productions c =
 symbols : tie.Need-returns-in-Refused-judge_symbols
 symbols c =
     let d = c.before.before.before.before in
-    let t = d.before.before.before.args.table.now in
+    let t = d.args.table.now in
     let h = or_goes (refusal_at t header) (or_else (symbols_of t) (productions_of t)) d.enum_told.given.1 d.before.before.judge_header.ensures in
     or_stops (symbols_of t) (productions_of t) c.before.r.given.1 c.before.before.before.judge_symbols.ensures ∙ sym (judge_parts t ∙ h)
 
 counts : tie.Need-returns-in-Refused
 counts c =
-    let t = c.before.before.before.before.args.table.now in
+    let t = c.before.before.args.table.now in
     or_stops (refusal_at t header) (or_else (symbols_of t) (productions_of t)) c.before.r-in-Refused-judge_header-1.given.1 c.before.before.before.judge_header.ensures ∙ sym (judge_parts t)
 
 pub judge_table_spec : {M : Type 1} → statement M

@@ -1,6 +1,6 @@
 -- The arm that is taken tells what was expected. Assumes nothing.
 use Prim.Native.Nat.{zero-le}
-use native.Mathlib.Nat.{sub_zero}
+use native.Mathlib.Nat.{sub-zero}
 use Rattle.text_frame.specs.Walk.{next_of}
 use borrow.Author.Rules.{rules}
 use Rattle.text_frame.proofs.walk.next_of.Statement.{statement}
@@ -21,6 +21,6 @@ next_of_spec =
     (λ c. search rules)
     (λ c. rw c.enum_told.given.1)
     (λ c. rw c.before.before.expected.given.1 c.after_symbol.ensures)
-    (λ c. rw c.before.before.expected2.given.1 (rw sub_zero at c.seek.ensures))
+    (λ c. rw c.before.before.expected2.given.1 (rw sub-zero at c.seek.ensures))
     (λ c. rw c.before.before.expected3.given.1 c.after_equation.ensures)
     (λ c. rw c.enum_told-in-Ended-1.given.1))

@@ -27,8 +27,8 @@ returns c =
 
 returns_2 : tie.Need-returns-in-Sound
 returns_2 c =
-    let a = c.before.before.before.before.before.before.before.before.before.before.before.before.args in
-    let g = c.before.before.before.before.before.before.before.before.before.before.rule.given in
+    let a = c.before.before.before.before.before.before.before.before.args in
+    let g = c.before.before.before.before.before.before.before.before.rule.given in
     let e : a.rule ≡ Equation g.0.0 g.0.1.0 g.0.1.1.0 g.0.1.1.1.0 = g.1 in
     let u : List ℕ = set (set a.table.now (97 + (2 * (20 * a.p + (4 * a.q + a.k)))) c.before.before.before.before.before.before.join-2.result) (98 + (2 * (20 * a.p + (4 * a.q + a.k)))) g.0.1.1.1.0 in
     let d : u ≡ words_after a.table.now (AtEquation a.p a.q a.k) (Rule a.rule) = rw e (equation_words a.table.now a.p a.q a.k g.0.0 g.0.1.0 g.0.1.1.0 g.0.1.1.1.0 c.before.before.before.before.before.before.before.before.wide.result c.before.before.before.before.before.before.before.join.result c.before.before.before.before.before.before.join-2.result c.before.before.before.before.before.before.before.before.wide.ensures.0 c.before.before.before.before.before.before.before.join.ensures c.before.before.before.before.before.before.join-2.ensures) in
@@ -38,8 +38,8 @@ returns_2 c =
 
 returns_3 : tie.Need-returns-in-Refused
 returns_3 c =
-    let a = c.before.before.before.before.before.before.before.before.before.before.before.args in
-    let g = c.before.before.before.before.before.before.before.before.before.rule.given in
+    let a = c.before.before.before.before.before.before.before.args in
+    let g = c.before.before.before.before.before.before.before.rule.given in
     let e : a.rule ≡ Equation g.0.0 g.0.1.0 g.0.1.1.0 g.0.1.1.1.0 = g.1 in
     let u : List ℕ = set (set a.table.now (97 + (2 * (20 * a.p + (4 * a.q + a.k)))) c.before.before.before.before.before.join-2.result) (98 + (2 * (20 * a.p + (4 * a.q + a.k)))) g.0.1.1.1.0 in
     let d : u ≡ words_after a.table.now (AtEquation a.p a.q a.k) (Rule a.rule) = rw e (equation_words a.table.now a.p a.q a.k g.0.0 g.0.1.0 g.0.1.1.0 g.0.1.1.1.0 c.before.before.before.before.before.before.before.wide.result c.before.before.before.before.before.before.join.result c.before.before.before.before.before.join-2.result c.before.before.before.before.before.before.before.wide.ensures.0 c.before.before.before.before.before.before.join.ensures c.before.before.before.before.before.join-2.ensures) in

@@ -26,8 +26,8 @@ returns c =
 
 returns_2 : tie.Need-returns-in-Sound
 returns_2 c =
-    let a = c.before.before.before.before.before.before.before.before.before.before.before.before.args in
-    let g = c.before.before.before.before.before.before.before.before.before.before.rule.given in
+    let a = c.before.before.before.before.before.before.before.before.args in
+    let g = c.before.before.before.before.before.before.before.before.rule.given in
     let e : a.rule ≡ Production g.0.0 g.0.1.0 g.0.1.1.0 = g.1 in
     let u : List ℕ = set a.table.now (33 + a.p) c.before.before.before.before.before.before.join-3.result in
     let d : u ≡ words_after a.table.now (AtProduction a.p) (Rule a.rule) = rw e (production_words a.table.now a.p g.0.0 g.0.1.0 g.0.1.1.0 c.before.before.before.before.before.before.before.before.join.result c.before.before.before.before.before.before.before.join-2.result c.before.before.before.before.before.before.join-3.result c.before.before.before.before.before.before.before.before.join.ensures c.before.before.before.before.before.before.before.join-2.ensures c.before.before.before.before.before.before.join-3.ensures) in
@@ -37,8 +37,8 @@ returns_2 c =
 
 returns_3 : tie.Need-returns-in-Refused
 returns_3 c =
-    let a = c.before.before.before.before.before.before.before.before.before.before.before.args in
-    let g = c.before.before.before.before.before.before.before.before.before.rule.given in
+    let a = c.before.before.before.before.before.before.before.args in
+    let g = c.before.before.before.before.before.before.before.rule.given in
     let e : a.rule ≡ Production g.0.0 g.0.1.0 g.0.1.1.0 = g.1 in
     let u : List ℕ = set a.table.now (33 + a.p) c.before.before.before.before.before.join-3.result in
     let d : u ≡ words_after a.table.now (AtProduction a.p) (Rule a.rule) = rw e (production_words a.table.now a.p g.0.0 g.0.1.0 g.0.1.1.0 c.before.before.before.before.before.before.before.join.result c.before.before.before.before.before.before.join-2.result c.before.before.before.before.before.join-3.result c.before.before.before.before.before.before.before.join.ensures c.before.before.before.before.before.before.join-2.ensures c.before.before.before.before.before.join-3.ensures) in

@@ -26,8 +26,8 @@ returns c =
 
 returns_2 : tie.Need-returns-in-Sound
 returns_2 c =
-    let a = c.before.before.before.before.before.before.before.before.before.before.args in
-    let g = c.before.before.before.before.before.before.before.before.rule.given in
+    let a = c.before.before.before.before.before.before.args in
+    let g = c.before.before.before.before.before.before.rule.given in
     let e : a.rule ≡ Symbol g.0.0 g.0.1.0 = g.1 in
     let u : List ℕ = set a.table.now (1 + a.s) c.before.before.before.before.before.before.join.result in
     let d : u ≡ words_after a.table.now (AtSymbol a.s) (Rule a.rule) = rw e (symbol_words a.table.now a.s g.0.0 g.0.1.0 c.before.before.before.before.before.before.join.result c.before.before.before.before.before.before.join.ensures) in
@@ -37,8 +37,8 @@ returns_2 c =
 
 returns_3 : tie.Need-returns-in-Refused
 returns_3 c =
-    let a = c.before.before.before.before.before.before.before.before.before.args in
-    let g = c.before.before.before.before.before.before.before.rule.given in
+    let a = c.before.before.before.before.before.args in
+    let g = c.before.before.before.before.before.rule.given in
     let e : a.rule ≡ Symbol g.0.0 g.0.1.0 = g.1 in
     let u : List ℕ = set a.table.now (1 + a.s) c.before.before.before.before.before.join.result in
     let d : u ≡ words_after a.table.now (AtSymbol a.s) (Rule a.rule) = rw e (symbol_words a.table.now a.s g.0.0 g.0.1.0 c.before.before.before.before.before.join.result c.before.before.before.before.before.join.ensures) in

@@ -13,7 +13,7 @@ use Rattle.text_table.proofs.whole.read_table.Tie as tie
 
 returns : tie.Need-returns-then-table-lt-WORDS
 returns c =
-    let a = c.before.before.before.before.before.before.before.before.args in
+    let a = c.before.before.before.before.before.before.args in
     let w = c.before.before.before.before.read_words-end in
     let g = c.before.before.end.given in
     let e : reading_at a.text.now a.place a.line ≡ done w.new.1.1.1.0 g.0.0 g.0.1.0 = read_done (reading_at a.text.now a.place a.line) w.result w.new.1.1.1.0 g.0.0 g.0.1.0 w.ensures.1 g.1 in
@@ -22,7 +22,7 @@ returns c =
 
 returns_2 : tie.Need-returns-else-table-lt-WORDS
 returns_2 c =
-    let a = c.before.before.before.before.before.before.before.before.before.before.before.before.before.args in
+    let a = c.before.before.before.before.before.before.before.before.before.before.before.args in
     let w = c.before.before.before.before.before.before.before.before.before.read_words-end in
     let g = c.before.before.before.before.before.before.before.end.given in
     let e : reading_at a.text.now a.place a.line ≡ done w.new.1.1.1.0 g.0.0 g.0.1.0 = read_done (reading_at a.text.now a.place a.line) w.result w.new.1.1.1.0 g.0.0 g.0.1.0 w.ensures.1 g.1 in
@@ -31,7 +31,7 @@ returns_2 c =
 
 returns_3 : tie.Need-returns-in-Refused
 returns_3 c =
-    let a = c.before.before.before.before.before.before.before.args in
+    let a = c.before.before.before.before.before.args in
     let w = c.before.before.before.read_words-end in
     let g = c.before.end-in-Refused-1.given in
     let e : reading_at a.text.now a.place a.line ≡ stop g.0.0 g.0.1.0 = read_stopped (reading_at a.text.now a.place a.line) w.result w.new.1.1.1.0 g.0.0 g.0.1.0 w.ensures.1 g.1 in

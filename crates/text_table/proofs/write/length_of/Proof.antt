@@ -15,7 +15,7 @@ length_of_spec =
     (λ c. search rules)
     (λ c. search rules)
     (λ c. search rules)
-    (λ c κs. (rw c.before.expected.given.1 at c.before.before.before.requires).0)
+    (λ c κs. (rw c.before.expected.given.1 at c.before.requires).0)
     (λ c. let r = rw c.before.before.expected.given.1 at c.before.before.before.before.requires in omega (arith, c.child_count.ensures, r.1.arity))
     (λ c. let r = rw c.before.before.expected.given.1 at c.before.before.before.before.requires in omega (arith, c.child_count.ensures, r.1.arity))
     (λ c. search rules)

@@ -15,7 +15,7 @@ returns : tie.Need-returns-in-AtHeader
 unfolding text_at shown equation_text rule_of
 returns c =
     let z = c.before.before in
-    let a = c.before.before.before.before.before.before.before.args in
+    let a = c.before.before.before.before.before.before.args in
     let e = c.before.before.before.before.enum_told.given in
     rw e.1 (z.put_header.ensures.0 ∙ ap (λ (n : ℕ). a.place + n) (sym (header_length a.table.now)), z.put_header.ensures.1)
 
@@ -23,7 +23,7 @@ returns_2 : tie.Need-returns-in-AtSymbol
 unfolding text_at shown equation_text rule_of
 returns_2 c =
     let z = c.before.before in
-    let a = c.before.before.before.before.before.before.before.before.args in
+    let a = c.before.before.before.before.before.before.args in
     let e = c.before.before.before.before.before.expected.given in
     rw e.1 (z.put_symbol.ensures.0 ∙ ap (λ (n : ℕ). a.place + n) (sym (symbol_length a.table.now e.0.0)), z.put_symbol.ensures.1)
 
@@ -31,7 +31,7 @@ returns_3 : tie.Need-returns-in-AtProduction
 unfolding text_at shown equation_text rule_of
 returns_3 c =
     let z = c.before.before in
-    let a = c.before.before.before.before.before.before.before.before.args in
+    let a = c.before.before.before.before.before.before.args in
     let e = c.before.before.before.before.before.expected2.given in
     rw e.1 (z.put_production.ensures.0 ∙ ap (λ (n : ℕ). a.place + n) (sym (production_length a.table.now e.0.0 (rw e.1 at c.before.before.before.before.before.before.before.before.requires).0.1.arity)), z.put_production.ensures.1)
 
@@ -39,7 +39,7 @@ returns_4 : tie.Need-returns-in-AtEquation
 unfolding text_at shown equation_text rule_of
 returns_4 c =
     let z = c.before.before in
-    let a = c.before.before.before.before.before.before.before.before.args in
+    let a = c.before.before.before.before.before.before.args in
     let e = c.before.before.before.before.before.expected3.given in
     rw e.1 (z.put_equation.ensures.0 ∙ ap (λ (n : ℕ). a.place + n) (sym (equation_length a.table.now e.0.0 e.0.1.0 e.0.1.1.0)), z.put_equation.ensures.1)
 

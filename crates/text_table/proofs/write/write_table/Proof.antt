@@ -16,21 +16,21 @@ use Rattle.text_table.proofs.write.write_table.Tie as tie
 
 returns : tie.Need-returns-then-has_room
 returns c =
-    let a = c.before.before.before.before.before.before.before.before.before.before.args in
+    let a = c.before.before.before.before.before.before.before.before.before.args in
     let z : judge_table a.table.now ≡ 0 = sound_zero c.before.before.before.before.before.before.enum_told.given.1 c.before.before.before.before.before.before.before.before.judge_table_lem.ensures in
     let l : leb (length (table_text a.table.now)) (length a.buffer.now) ≡ true = sym c.before.before.before.before.before.has_room.ensures ∙ c.before.before.before.before.if-has_room.true in
     rw (z, l) (ap Length c.before.before.put_table.ensures.0, c.before.before.put_table.ensures.1)
 
 returns_2 : tie.Need-returns-else-has_room
 returns_2 c =
-    let a = c.before.before.before.before.before.before.args in
+    let a = c.before.before.before.before.before.args in
     let z : judge_table a.table.now ≡ 0 = sound_zero c.before.before.enum_told.given.1 c.before.before.before.before.judge_table_lem.ensures in
     let l : leb (length (table_text a.table.now)) (length a.buffer.now) ≡ false = sym c.before.has_room.ensures ∙ c.if-has_room.false in
     rw (z, l) (refl, refl)
 
 returns_3 : tie.Need-returns-in-Refused
 returns_3 c =
-    let a = c.before.before.before.before.before.args in
+    let a = c.before.before.before.args in
     let n : number_of c.before.r.given.0.0 ≡ judge_table a.table.now = refused_number c.before.r.given.1 c.before.before.before.judge_table_lem.ensures in
     rw (← n) (refused_answer c.before.r.given.0.0 (length a.buffer.now) (table_text a.table.now), refused_buffer c.before.r.given.0.0 a.buffer.now (table_text a.table.now))
 

@@ -17,21 +17,21 @@ use Rattle.text_tree.proofs.plant.write_tree.Tie as tie
 
 mul_n : tie.Need-overflow_mul-n
 mul_n c =
-    let a = c.before.before.before.before.before.before.args in
+    let a = c.before.before.before.before.before.args in
     let z : tree_refusal a.table.now a.productions.now a.owns.now ≡ 0 = sound_zero c.enum_told.given.1 c.before.before.judge_tree.ensures in
     let h = handed a.table.now a.productions.now a.owns.now z in
     let n = tree_length a.productions.now a.owns.now h.equal in omega (arith, h.few)
 
 add_n : tie.Need-overflow_add-n
 add_n c =
-    let a = c.before.before.before.before.before.before.args in
+    let a = c.before.before.before.before.before.args in
     let z : tree_refusal a.table.now a.productions.now a.owns.now ≡ 0 = sound_zero c.enum_told.given.1 c.before.before.judge_tree.ensures in
     let h = handed a.table.now a.productions.now a.owns.now z in
     let n = tree_length a.productions.now a.owns.now h.equal in omega (arith, h.few)
 
 returns : tie.Need-returns-then-buffer-n
 returns c =
-    let a = c.before.before.before.before.before.before.before.args in
+    let a = c.before.before.before.before.before.before.args in
     let z : tree_refusal a.table.now a.productions.now a.owns.now ≡ 0 = sound_zero c.before.enum_told.given.1 c.before.before.before.judge_tree.ensures in
     let h = handed a.table.now a.productions.now a.owns.now z in
     let n = tree_length a.productions.now a.owns.now h.equal in
@@ -40,14 +40,14 @@ returns c =
 
 put_tree_requires : tie.Need-put_tree-requires
 put_tree_requires c κs =
-    let a = c.before.before.before.before.before.before.before.before.args in
+    let a = c.before.before.before.before.before.before.before.args in
     let z : tree_refusal a.table.now a.productions.now a.owns.now ≡ 0 = sound_zero c.before.before.enum_told.given.1 c.before.before.before.before.judge_tree.ensures in
     let h = handed a.table.now a.productions.now a.owns.now z in
     let n = tree_length a.productions.now a.owns.now h.equal in (h.equal, (h.few, omega arith))
 
 returns_2 : tie.Need-returns-else-buffer-n
 returns_2 c =
-    let a = c.before.before.before.before.before.before.before.before.before.before.before.args in
+    let a = c.before.before.before.before.before.before.before.before.before.before.args in
     let z : tree_refusal a.table.now a.productions.now a.owns.now ≡ 0 = sound_zero c.before.before.before.before.before.enum_told.given.1 c.before.before.before.before.before.before.before.judge_tree.ensures in
     let h = handed a.table.now a.productions.now a.owns.now z in
     let n = tree_length a.productions.now a.owns.now h.equal in
@@ -56,7 +56,7 @@ returns_2 c =
 
 returns_3 : tie.Need-returns-in-Refused
 returns_3 c =
-    let a = c.before.before.before.before.before.before.before.args in
+    let a = c.before.before.before.before.before.args in
     let n : number_of c.before.r.given.0.0 ≡ tree_refusal a.table.now a.productions.now a.owns.now = refused_number c.before.r.given.1 c.before.before.before.judge_tree.ensures in
     rw (← n) (refused_answer c.before.r.given.0.0 (length a.buffer.now) (tree_text a.productions.now a.owns.now), refused_buffer c.before.r.given.0.0 a.buffer.now (tree_text a.productions.now a.owns.now))
 

@@ -29,7 +29,7 @@ returns_4 : tie.Need-returns-then-new_owns-count
 returns_4 c = cuts_owns _ _ _ _ _ _ c.before.before.before.before.before.before.before.before.before.before.requires (sym c.before.before.before.before.before.if-is_meeting.false ∙ c.before.before.before.before.before.before.is_meeting.ensures) (sym c.before.before.before.if-is_passing.false ∙ c.before.before.before.before.is_passing.ensures) _ c.before.before.count_coming-count.ensures c.if-new_owns-count.true
 
 judge_parts_requires : tie.Need-judge_parts-requires
-judge_parts_requires c κs = (limits _ c.before.before.before.before.before.before.before.before.before.before.requires.table, (judged_numbered _ _ _ c.before.before.before.before.before.before.before.before.before.before.requires.tree, (aimed_small c.before.before.before.before.before.before.before.before.before.before.requires, cuts_room _ _ _ _ c.before.before.before.before.before.before.before.before.before.before.args.new.now c.before.before.before.before.before.before.before.before.before.before.args.new-owns.now c.before.before.before.before.before.before.before.before.before.before.requires (sym c.before.before.before.before.before.if-is_meeting.false ∙ c.before.before.before.before.before.before.is_meeting.ensures) (sym c.before.before.before.if-is_passing.false ∙ c.before.before.before.before.is_passing.ensures) _ c.before.before.count_coming-count.ensures c.before.if-new-count.false)))
+judge_parts_requires c κs = (limits _ c.before.before.before.before.before.before.before.before.before.before.requires.table, (judged_numbered _ _ _ c.before.before.before.before.before.before.before.before.before.before.requires.tree, (aimed_small c.before.before.before.before.before.before.before.before.before.before.requires, cuts_room _ _ _ _ c.before.before.before.before.before.before.before.before.before.before.args.new.now c.before.before.before.before.before.before.before.before.before.before.args.new_owns.now c.before.before.before.before.before.before.before.before.before.before.requires (sym c.before.before.before.before.before.if-is_meeting.false ∙ c.before.before.before.before.before.before.is_meeting.ensures) (sym c.before.before.before.if-is_passing.false ∙ c.before.before.before.before.is_passing.ensures) _ c.before.before.count_coming-count.ensures c.before.if-new-count.false)))
 
 returns_5 : tie.Need-returns
 returns_5 c = c.judge_parts.ensures ∙ cuts_parts _ _ _ _ _ _ c.before.before.before.before.before.before.before.before.before.before.before.requires (sym c.before.before.before.before.before.before.if-is_meeting.false ∙ c.before.before.before.before.before.before.before.is_meeting.ensures) (sym c.before.before.before.before.if-is_passing.false ∙ c.before.before.before.before.before.is_passing.ensures) _ c.before.before.before.count_coming-count.ensures c.before.before.if-new-count.false c.before.if-new_owns-count.false

@@ -33,6 +33,6 @@ is_declared_spec =
     (λ c κs. let p = symbol c in omega (arith, (start c.before).requires.0.symbols))
     (λ c.
     let s = c.before.before.before.before.before.before in
-    c.has_set_lem.ensures
+    c.has_set.ensures
     ∙ ap (λ v. has_set s.args.table.now v (s.args.instance % 8)) (c.before.left_of.ensures ∙ ap (left_of s.args.table.now) c.before.before.index.ensures.0)
     ∙ declared_in s.args.table.now s.args.held.now s.args.nodes s.requires.1.1 s.args.instance (omega arith)))

@@ -22,7 +22,7 @@ use Rattle.update.specs.Refusals.{waiver_order}
 use Rattle.refusal.specs.Orders.{Order, refusal_by}
 
 abbrev ps : tie.Start → List Part
-ps s = handed_row (named_points s.args.points) s.args.new.now s.args.new-owns.now
+ps s = handed_row (named_points s.args.points) s.args.new.now s.args.new_owns.now
 
 abbrev numbers : tie.Start → Order
 numbers s = fit_order s.args.table.now s.args.tree.now (length s.args.tree.now) (ps s)
@@ -31,14 +31,14 @@ abbrev after : tie.Start → List ℕ
 after s = nodes_row s.args.table.now s.args.tree.now (ps s)
 
 abbrev start : tie.In-Sound → tie.Start
-start c = c.before.before.before.before.before.before
+start c = c.before.before.before.before.before
 
 none : (c : tie.In-Sound) → refusal_by (numbers (start c)) ≡ 0
 none c = sound_zero c.enum_told.given.1 c.before.before.judge_row.ensures
 
 -- 21 looks at no own set
-splicing : (c : tie.In-Sound) → Splicing (start c).args.table.now (start c).args.tree.now (start c).args.tree.now (start c).args.points (start c).args.cuts (start c).args.new.now (start c).args.new-owns.now
-splicing c = let s = start c in splices s.args.table.now s.args.tree.now s.args.points s.args.cuts s.args.new.now s.args.new-owns.now s.requires (none c) s.args.tree.now refl
+splicing : (c : tie.In-Sound) → Splicing (start c).args.table.now (start c).args.tree.now (start c).args.tree.now (start c).args.points (start c).args.cuts (start c).args.new.now (start c).args.new_owns.now
+splicing c = let s = start c in splices s.args.table.now s.args.tree.now s.args.points s.args.cuts s.args.new.now s.args.new_owns.now s.requires (none c) s.args.tree.now refl
 
 fits : (c : tie.In-Sound) → Fitting (start c).args.cuts (length (start c).args.tree.now) (length (start c).args.new.now)
 fits c = splicing_fits (splicing c)
@@ -69,16 +69,16 @@ waives_then_requires : tie.Need-waives_then-requires
 waives_then_requires c κs = (fits (c), holds (c))
 
 returns : tie.Need-returns-then-waives_then
-returns c = let s = c.before.before.before.before.before.before.before.before in last_waived (numbers s) s.args.table.now (after s) (none c.before.before) (sym (ap (waives s.args.table.now) (built c.before.before)) ∙ sym c.before.waives_then.ensures ∙ c.if-waives_then.true)
+returns c = let s = c.before.before.before.before.before.before.before in last_waived (numbers s) s.args.table.now (after s) (none c.before.before) (sym (ap (waives s.args.table.now) (built c.before.before)) ∙ sym c.before.waives_then.ensures ∙ c.if-waives_then.true)
 
 enum_known_r : tie.Need-enum_known-r
 enum_known_r c = search rules
 
 returns_2 : tie.Need-returns-else-waives_then
-returns_2 c = let s = c.before.before.before.before.before.before.before.before in last_free (numbers s) s.args.table.now (after s) (none c.before.before) (sym (ap (waives s.args.table.now) (built c.before.before)) ∙ sym c.before.waives_then.ensures ∙ c.if-waives_then.false)
+returns_2 c = let s = c.before.before.before.before.before.before.before in last_free (numbers s) s.args.table.now (after s) (none c.before.before) (sym (ap (waives s.args.table.now) (built c.before.before)) ∙ sym c.before.waives_then.ensures ∙ c.if-waives_then.false)
 
 returns_3 : tie.Need-returns-in-Refused
-returns_3 c = let s = c.before.before.before.before.before.before.before in stopped (numbers s) (waiver_order s.args.table.now (after s)) c.before.r.given.0.0 (refused_number c.before.r.given.1 c.before.before.before.judge_row.ensures)
+returns_3 c = let s = c.before.before.before.before.before in stopped (numbers s) (waiver_order s.args.table.now (after s)) c.before.r.given.0.0 (refused_number c.before.r.given.1 c.before.before.before.judge_row.ensures)
 
 pub judge_replaced_spec : {M : Type 1} → statement M
 judge_replaced_spec =

@@ -10,7 +10,7 @@ use Rattle.update_place.proofs.placing.place_nodes.Statement.{statement}
 use Rattle.update_place.proofs.placing.place_nodes.Tie as tie
 
 -- the front of the array
-back : (c : tie.After-splice_nodes-count) → let a = c.before.before.before.before.before.args in take c.splice_nodes-count.result c.splice_nodes-count.new.out ≡ spliced_by a.cuts a.new.now (take a.nodes a.held.now)
+back : (c : tie.After-splice_nodes-count) → let a = c.before.before.before.before.args in take c.splice_nodes-count.result c.splice_nodes-count.new.out ≡ spliced_by a.cuts a.new.now (take a.nodes a.held.now)
 back c = ap (take c.splice_nodes-count.result) c.splice_nodes-count.ensures.1 ∙ take_filled _ _ c.splice_nodes-count.result (sym c.splice_nodes-count.ensures.0)
 
 back_long : (c : tie.After-splice_nodes-count) → c.splice_nodes-count.result ≡ length (take c.splice_nodes-count.result c.splice_nodes-count.new.out)

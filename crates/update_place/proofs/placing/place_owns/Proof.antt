@@ -10,7 +10,7 @@ use Rattle.update_place.proofs.placing.place_owns.Statement.{statement}
 use Rattle.update_place.proofs.placing.place_owns.Tie as tie
 
 -- the front of the array
-back : (c : tie.After-splice_sets-count) → let a = c.before.before.before.before.before.args in take c.splice_sets-count.result c.splice_sets-count.new.out ≡ spliced_by a.cuts a.new.now (take a.nodes a.owns.now)
+back : (c : tie.After-splice_sets-count) → let a = c.before.before.before.before.args in take c.splice_sets-count.result c.splice_sets-count.new.out ≡ spliced_by a.cuts a.new.now (take a.nodes a.owns.now)
 back c = ap (take c.splice_sets-count.result) c.splice_sets-count.ensures.1 ∙ take_filled _ _ c.splice_sets-count.result (sym c.splice_sets-count.ensures.0)
 
 back_long : (c : tie.After-splice_sets-count) → c.splice_sets-count.result ≡ length (take c.splice_sets-count.result c.splice_sets-count.new.out)

@@ -13,7 +13,7 @@ use Rattle.update_place.proofs.placing.place_row.Tie as tie
 abbrev memory : tie.Start → Memory
 memory s = lent s.args.held.now s.args.held_owns.now s.args.sets.now s.args.«earlier».now
 
-lending : (s : tie.Start) → Lending s.args.table.now (memory s) s.args.nodes s.args.points s.args.cuts s.args.new.now s.args.new-owns.now
+lending : (s : tie.Start) → Lending s.args.table.now (memory s) s.args.nodes s.args.points s.args.cuts s.args.new.now s.args.new_owns.now
 lending s = record {
   splicing = s.requires.0;
   few = s.requires.1.0.0;
@@ -32,7 +32,7 @@ few : (c : tie.After-place_nodes-count) → c.place_nodes-count.result ≤ 512
 few c =
     let s = start c in
     let a = s.args in
-    omega (arith, c.place_nodes-count.ensures.0, nodes_few a.table.now (memory s) a.nodes a.points a.cuts a.new.now a.new-owns.now (lending s))
+    omega (arith, c.place_nodes-count.ensures.0, nodes_few a.table.now (memory s) a.nodes a.points a.cuts a.new.now a.new_owns.now (lending s))
 
 -- its buffer is as long as it was
 long : (c : tie.After-place_nodes-count) → length c.place_nodes-count.new.held ≡ length (start c).args.held.now

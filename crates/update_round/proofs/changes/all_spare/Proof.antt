@@ -2,7 +2,7 @@
 use mathlib.Core.Path.{sym, ◌∙◌}
 use Prim.Native.Nat.{◌-◌}
 use native.Mathlib.Omega.{arith}
-use borrow.Author.Tests.{not_true, not_false}
+use borrow.Author.Tests.{not-true, not-false}
 use Rattle.update_round.proofs.Points.{looked_none, SparedFrom, spared_not, spared_on, spared_over}
 use borrow.Author.Rules.{rules}
 use Rattle.update_round.proofs.changes.all_spare.Statement.{statement}
@@ -21,10 +21,10 @@ spares_requires c κs =
     w.numbers _ (omega (arith, w.count, c.before.loop-at-test.true))
 
 returns : tie.Need-returns-then-not-spares invariant_loop decreases_loop
-returns c = spared_not _ _ _ c.before.before.before.before.loop-at.invariant c.before.before.before.loop-at-test.true (sym c.before.spares.ensures ∙ not_true _ c.if-not-spares.true)
+returns c = spared_not _ _ _ c.before.before.before.before.loop-at.invariant c.before.before.before.loop-at-test.true (sym c.before.spares.ensures ∙ not-true _ c.if-not-spares.true)
 
 loop_again : tie.Need-loop-at-preserved invariant_loop decreases_loop
-loop_again c = spared_on _ _ _ c.before.before.before.before.loop-at.invariant c.before.before.before.loop-at-test.true (sym c.before.spares.ensures ∙ not_false _ c.if-not-spares.false)
+loop_again c = spared_on _ _ _ c.before.before.before.before.loop-at.invariant c.before.before.before.loop-at-test.true (sym c.before.spares.ensures ∙ not-false _ c.if-not-spares.false)
 
 pub all_spare_spec : {M : Type 1} → statement M
 all_spare_spec =

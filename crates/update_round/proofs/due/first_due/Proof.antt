@@ -53,7 +53,7 @@ returns c =
     look_here (reading g.n g.a.now g.b.now) (circles_in g.n g.a.now g.b.now) g.r g.earlier.now g.sets.now g.count c.before.before.before.before.before.before.before.before.before.loop-i.i c.before.before.before.before.before.before.before.before.loop-i-test.true (same c.before ∙ c.if-is_due.true) ∙ sym c.before.before.before.before.before.before.before.before.before.loop-i.invariant
 
 add_i : tie.Need-overflow_add-i invariant_loop decreases_loop
-add_i c = omega (arith, c.before.before.before.before.before.before.before.before.before.before.before.before.before.before.before.before.before.requires.1.0.few, c.before.before.before.before.before.before.before.before.loop-i-test.true)
+add_i c = omega (arith, c.before.before.before.before.before.before.before.before.before.before.before.requires.1.0.few, c.before.before.before.before.before.before.before.before.loop-i-test.true)
 
 loop_again : tie.Need-loop-i-preserved invariant_loop decreases_loop
 loop_again c =

@@ -41,7 +41,7 @@ step_in_requires c κs =
 
 returns : tie.Need-returns-in-Done invariant_loop decreases_loop
 returns c =
-    let s = c.before.before.before.before.before.before.before.before.before.before.before.before.before.before.before.before.before.before.before.before.before.before.before.before.before in
+    let s = c.before.before.before.before.before.before.before.before.before.before.before.before.before.before.before.before.before.before.before.before.before.before.before in
     let l = c.before.before.before.before.before.before.before.before.before.before.before.before.before.loop-rounds in
     let f = c.done_after.ensures in
     rw (f.0, f.1) (left_done (S s) (R s) s.args.earlier.now s.args.budget s.args.r s.args.sets.now l.rounds l.work l.sets _ _ _ _ _ _ c.before.before.before.before.before.before.before.before.before.before.before.before.loop-rounds-test.true l.invariant.4 c.before.before.before.before.before.before.before.before.before.step_in-d.ensures c.before.before.answer.given.1)
