@@ -7,14 +7,11 @@ use native.Mathlib.Omega.{arith}
 use borrow.Author.Tests.{lt-ltb}
 use lib.ListN.{length, take, length-append}
 use lib.Seq.{sets}
-use types.Run.{OneOf, miss}
-use denote.Enum.Declared.{tag_of}
 use Rattle.text_line.proofs.Out.{sets_append}
 use Rattle.climb.specs.Inner.Wired.{wired}
 use Rattle.update.specs.declared.Record.{Record}
 use Rattle.update.specs.declared.Answer.{Answer}
 use Rattle.update.specs.declared.Answer.TheVariants.{Round, Done, Refused}
-use Rattle.update.specs.contracts.Answer as A
 use Rattle.update.specs.Memories.{lent, Memory}
 use Rattle.update.specs.Steps.{round, done, Made, step_of}
 use Rattle.update.specs.Calls.{said, answer_says, step_call}
@@ -148,10 +145,10 @@ module _ (t owns : List ℕ) (n : ℕ) (a b left rule label members ends : List 
       }
 
       -- an answer that is neither done nor a refusal is a round
-      pub turn_on : (answer : Answer) → place' ≤ length out₀ → StepSays (made_from r s) answer d s' → AnswerPut (answer_says answer) place out place' out' → OneOf (0 ∷ 2 ∷ []) (tag_of A.the_type answer)
+      pub turn_on : (answer : Answer) → place' ≤ length out₀ → StepSays (made_from r s) answer d s' → AnswerPut (answer_says answer) place out place' out' → ((x y z : ℕ) → answer ≡ Done x y z → ⊥)
           → TurnsSoFar (still - 1) place' d s' out'
       turn_on (Round x y z k) fit u put i = turn_round x y z k fit u put
-      turn_on (Done x y z) fit u put i = absurd (miss (0 ∷ 2 ∷ []) 1 tt i)
+      turn_on (Done x y z) fit u put i = absurd (i x y z refl)
       turn_on (Refused q) fit u put i = let z : ◌≡◌ {A = ℕ} 0 1 = cc u.answer in absurd (omega arith)
 
       turn_last : (x y z : ℕ) → place' ≤ length out₀ → StepSays (made_from r s) (Done x y z) d s' → AnswerPut (said (done x y z)) place out place' out'

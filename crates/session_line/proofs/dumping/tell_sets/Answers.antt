@@ -3,6 +3,7 @@ use Rattle.session_line.proofs.Dumps.{dump_busy, dump_absent, dump_sets, told_mo
 use Rattle.text_sets.proofs.Slots.{tellable}
 use Rattle.update.specs.Memories.{lent}
 use native.Mathlib.Omega.{arith}
+use borrow.Author.Tests.{not-true, not-false}
 use lib.Seq.{sets}
 use lib.ListN.{length, take}
 use Prim.Native.Nat.{◌+◌, ◌*◌}
@@ -21,7 +22,7 @@ pub returns-then-not-record : goal.returns-then-not-record
 returns-then-not-record c =
     let a = c.args in
     let e = c.put_refusal-then-not-record.ensures in
-    let d = dump_absent a.table.now (lent c.args.held.now c.args.held_owns.now c.args.sets.now c.args.earlier.now) a.«record» a.line c.requires.holding (sym c.is_open.ensures ∙ c.if-is_open.false) c.if-not-record.true in
+    let d = dump_absent a.table.now (lent c.args.held.now c.args.held_owns.now c.args.sets.now c.args.earlier.now) a.«record» a.line c.requires.holding (sym c.is_open.ensures ∙ c.if-is_open.false) (not-true a.«record».held c.if-not-record.true) in
     let p = told_refused 16 a.line a.printed _ a.out.now _ _ d e.0 e.1 in
     (refl, refl, p.0, p.1)
 
@@ -31,7 +32,7 @@ put_sets-requires c =
     let n = a.«record».nodes in
     let k = c.requires.holding in
     record {
-      tellable = tellable a.table.now (lent c.args.held.now c.args.held_owns.now c.args.sets.now c.args.earlier.now) a.«record» k.ground (k.tree c.if-not-record.false);
+      tellable = tellable a.table.now (lent c.args.held.now c.args.held_owns.now c.args.sets.now c.args.earlier.now) a.«record» k.ground (k.tree (not-false a.«record».held c.if-not-record.false));
       nodes_in_bounds = omega (arith, told_most a.table.now (take n a.held.now) a.sets.now (8 * n) 0, k.ground.within.nodes, c.requires.spacious.room);
     }
 
@@ -39,5 +40,5 @@ pub returns : goal.returns
 returns c =
     let a = c.args in
     let e = c.put_sets.ensures in
-    let d = dump_sets a.table.now (lent c.args.held.now c.args.held_owns.now c.args.sets.now c.args.earlier.now) a.«record» a.line c.requires.holding (sym c.is_open.ensures ∙ c.if-is_open.false) c.if-not-record.false in
+    let d = dump_sets a.table.now (lent c.args.held.now c.args.held_owns.now c.args.sets.now c.args.earlier.now) a.«record» a.line c.requires.holding (sym c.is_open.ensures ∙ c.if-is_open.false) (not-false a.«record».held c.if-not-record.false) in
     (refl, refl, e.0 ∙ ap (λ l. a.printed + length l) d, e.1 ∙ ap (sets a.out.now a.printed) d)
