@@ -5,8 +5,6 @@ use mathlib.Core.List.{List, [], ◌∷◌, ◌++◌, append-nil, append_assoc}
 use Prim.Native.Nat.{ℕ, suc, ◌+◌, ◌-◌, ◌≤◌, ◌<◌}
 use native.Mathlib.Omega.{arith}
 use native.Mathlib.Nat.{lt_of_not-le}
-use types.Run.{OneOf, miss}
-use denote.Enum.Declared.{tag_of}
 use lib.ListN.{length, take, drop, length-take, length-drop, length-append, take-append-drop, drop_of_length-le}
 use lib.Seq.{sets, length-sets, length-take-le, take_all, take_at, drop_at, drop-drop}
 use Rattle.text_line.proofs.Out.{sets_append}
@@ -24,7 +22,6 @@ use Rattle.session_owed.specs.Laws.{listens, Pays}
 use Rattle.session_owed.specs.declared.Awaited.{Awaited}
 use Rattle.session_owed.specs.declared.Awaited.TheVariants.{Table, Command, Naming, Nodes, Working, Stopped}
 use Rattle.session_owed.specs.declared.Told.{Told}
-use Rattle.session_owed.specs.contracts.Awaited as M
 use Rattle.session_owed.proofs.Owing.{line_pays}
 use Rattle.session_memory.specs.declared.State.{State}
 use Rattle.session_memory.specs.Suspended.{Suspended, suspended, table_of, line_of, owed_for, Wide, Fits}
@@ -143,12 +140,12 @@ fares_out {out = out} x = ap length x.shown ∙ length-sets out 0 x.text
 
 -- ---- what is waited for
 
-pub not_working : (awaited : Awaited) → OneOf (0 ∷ 1 ∷ 2 ∷ 3 ∷ 5 ∷ []) (tag_of M.the_type awaited) → listens awaited ≡ true
+pub not_working : (awaited : Awaited) → ((turns : ℕ) → awaited ≡ Working turns → ⊥) → listens awaited ≡ true
 not_working (Table x) k = refl
 not_working Command k = refl
 not_working (Naming count taken line) k = refl
 not_working (Nodes coming count taken line) k = refl
-not_working (Working turns) k = absurd (miss (0 ∷ 1 ∷ 2 ∷ 3 ∷ 5 ∷ []) 4 tt k)
+not_working (Working turns) k = absurd (k turns refl)
 not_working Stopped k = refl
 
 pub not_silent : (awaited : Awaited) → listens awaited ≡ true → (awaited ≡ Stopped → ⊥) → silent awaited ≡ false
