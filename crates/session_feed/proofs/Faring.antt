@@ -55,7 +55,7 @@ pub sized_on : {d e f : Suspended} → Sized d e → Sized e f → Sized d f
 sized_on x y = record {
   window = y.window ∙ x.window;
   parts = y.parts ∙ x.parts;
-  part_owns_lem = y.part_owns_lem ∙ x.part_owns_lem;
+  part_owns = y.part_owns ∙ x.part_owns;
   productions = y.productions ∙ x.productions;
   owns = y.owns ∙ x.owns;
   sets_size = y.sets_size ∙ x.sets_size;
@@ -63,7 +63,7 @@ sized_on x y = record {
 }
 
 pub sized_none : (d : Suspended) → Sized d d
-sized_none d = record { window = refl; parts = refl; part_owns_lem = refl; productions = refl; owns = refl; sets_size = refl; earlier = refl }
+sized_none d = record { window = refl; parts = refl; part_owns = refl; productions = refl; owns = refl; sets_size = refl; earlier = refl }
 
 -- ---- a call's turns, one by one
 
@@ -180,7 +180,7 @@ still_wide d d' out out' w n k e = record {
   words_room = omega arith;
   window_room = omega (arith, w.window_room, k.window);
   parts_room = omega (arith, w.parts_room, k.parts);
-  owns_room = omega (arith, w.owns_room, k.part_owns_lem);
+  owns_room = omega (arith, w.owns_room, k.part_owns);
   room = record {
     productions = omega (arith, w.room.productions, k.productions);
     owns = omega (arith, w.room.owns, k.owns);
@@ -229,7 +229,7 @@ module _ (t w ps os : List ℕ) (m : Memory) (s : State) (piece : List ℕ) (fro
         text = [];
         ready = record {
           fits = record {
-            wide = still_wide here (suspended t w' ps os m begun_then) out out ready.fits.wide ready.size (record { window = size; parts = refl; part_owns_lem = refl; productions = refl; owns = refl; sets_size = refl; earlier = refl }) refl;
+            wide = still_wide here (suspended t w' ps os m begun_then) out out ready.fits.wide ready.size (record { window = size; parts = refl; part_owns = refl; productions = refl; owns = refl; sets_size = refl; earlier = refl }) refl;
             begun = omega (arith, (g.waits e).few, length-take n w', ready.fits.wide.window_room);
             line = g.waits e;
             sound = ready.fits.sound;
@@ -272,7 +272,7 @@ module _ (t w ps os : List ℕ) (m : Memory) (s : State) (piece : List ℕ) (fro
         sized_after = record {
           window = size;
           parts = ap length h.parts_then ∙ bounds.parts;
-          part_owns_lem = ap length h.owns_then ∙ bounds.owns;
+          part_owns = ap length h.owns_then ∙ bounds.owns;
           productions = ap (λ (x : Memory). length x.productions) h.memory ∙ bounds.memory.productions;
           owns = ap (λ (x : Memory). length x.owns) h.memory ∙ bounds.memory.owns;
           sets_size = ap (λ (x : Memory). length x.sets) h.memory ∙ bounds.memory.sets;
@@ -351,7 +351,7 @@ module _ (t w ps os : List ℕ) (m : Memory) (s : State) (piece : List ℕ) (fro
     sized_then = record {
       window = refl;
       parts = refl;
-      part_owns_lem = refl;
+      part_owns = refl;
       productions = ap (λ (x : Memory). length x.productions) paid.kept;
       owns = ap (λ (x : Memory). length x.owns) paid.kept;
       sets_size = paid.size;

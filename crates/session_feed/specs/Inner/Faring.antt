@@ -17,7 +17,7 @@ pub record Ready (d : Suspended) (out : List ℕ) : Type 0 where
 pub record Sized (d d' : Suspended) : Type 0 where
   pub window : length d'.window ≡ length d.window
   pub parts : length d'.parts ≡ length d.parts
-  pub part_owns_lem : length d'.part_owns ≡ length d.part_owns
+  pub part_owns : length d'.part_owns ≡ length d.part_owns
   pub productions : length d'.memory.productions ≡ length d.memory.productions
   pub owns : length d'.memory.owns ≡ length d.memory.owns
   pub sets_size : length d'.memory.sets ≡ length d.memory.sets
