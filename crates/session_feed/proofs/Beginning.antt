@@ -20,7 +20,7 @@ pub program_starts : ProgramStarts
 unfolding first_out
 program_starts = record {
   fits = record {
-    wide = record { words_room = room 2657; window_room = room 29; parts_room = room 513; owns_room = room 521; room = own_roomy; out_room_lem = room 131072 };
+    wide = record { words_room = room 2657; window_room = room 29; parts_room = room 513; owns_room = room 521; room = own_roomy; print_room = room 131072 };
     begun = omega arith;
     line = record { few = omega arith; no_end = λ i k e. omega (arith, k) };
     sound = (tt, refl);

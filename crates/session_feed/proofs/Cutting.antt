@@ -79,7 +79,7 @@ calls_end Lends d out piece from n text d' out' place c =
 
 fits_lent : {d : Suspended} {out : List ℕ} (o : List ℕ) → Fits d out → 131072 ≤ length o → Fits d o
 fits_lent o f h = record {
-  wide = record { words_room = f.wide.words_room; window_room = f.wide.window_room; parts_room = f.wide.parts_room; owns_room = f.wide.owns_room; room = f.wide.room; out_room_lem = h };
+  wide = record { words_room = f.wide.words_room; window_room = f.wide.window_room; parts_room = f.wide.parts_room; owns_room = f.wide.owns_room; room = f.wide.room; print_room = h };
   begun = f.begun;
   line = f.line;
   sound = f.sound;
@@ -106,7 +106,7 @@ module _ (Lends : List ℕ → List ℕ → Type 0) (lending : Lending Lends) (d
       → Ended Lends d out piece from
   ends_from zero e o at h f c = absurd (omega arith)
   ends_from (suc k) e o at h f c =
-      let l = lending o f.wide.out_room_lem in
+      let l = lending o f.wide.print_room in
       let a = always_answered e piece at l.0 (fits_lent l.0 f l.2) in
       call_then c l.1 a.then a.place a.printed a.more a.left a.feeds
       (λ t next. ends_from k a.then a.left a.place (omega (arith, owed_less t)) t.fits next)

@@ -130,7 +130,7 @@ module _ {d d' : Suspended} {piece : List ℕ} {from place printed : ℕ} {out o
     within = x.within;
     idle = λ z. absurd (true≢false z);
     used = λ z. absurd (true≢false z);
-    full = λ z. omega (arith, x.ready.fits.wide.out_room_lem, lt_of_not-le h);
+    full = λ z. omega (arith, x.ready.fits.wide.print_room, lt_of_not-le h);
     runs = over_tables true runs;
     words_rest = nothing_behind;
   }
@@ -187,7 +187,7 @@ still_wide d d' out out' w n k e = record {
     sets = omega (arith, w.room.sets, k.sets_size);
     earlier = omega (arith, w.room.earlier, k.earlier);
   };
-  out_room_lem = omega (arith, w.out_room_lem, e);
+  print_room = omega (arith, w.print_room, e);
 }
 
 -- ---- from a state on: w the window, b the bytes of the begun line
@@ -422,7 +422,7 @@ module _ (words t w ps os : List ℕ) (m : Memory) (s : State) (out : List ℕ) 
     pub ready_of : Ready (suspended t w ps os m s) out
     ready_of = record {
       fits = record {
-        wide = record { words_room = omega (arith, copy_size); window_room = wide.window_room; parts_room = wide.parts_room; owns_room = wide.owns_room; room = wide.room; out_room_lem = wide.out_room_lem };
+        wide = record { words_room = omega (arith, copy_size); window_room = wide.window_room; parts_room = wide.parts_room; owns_room = wide.owns_room; room = wide.room; print_room = wide.print_room };
         begun = fits_of.begun;
         line = fits_of.line;
         sound = rw (copy_whole, copy) fits_of.sound;
@@ -442,7 +442,7 @@ module _ (words t w ps os : List ℕ) (m : Memory) (s : State) (out : List ℕ) 
       copied_back f = record {
         text = f.text;
         fits = record {
-          wide = record { words_room = omega (arith, size, ap length back, length-append t' (drop 2657 words)); window_room = f.fits.wide.window_room; parts_room = f.fits.wide.parts_room; owns_room = f.fits.wide.owns_room; room = f.fits.wide.room; out_room_lem = f.fits.wide.out_room_lem };
+          wide = record { words_room = omega (arith, size, ap length back, length-append t' (drop 2657 words)); window_room = f.fits.wide.window_room; parts_room = f.fits.wide.parts_room; owns_room = f.fits.wide.owns_room; room = f.fits.wide.room; print_room = f.fits.wide.print_room };
           begun = f.fits.begun;
           line = f.fits.line;
           sound = rw back_table f.fits.sound;

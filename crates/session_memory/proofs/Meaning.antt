@@ -33,7 +33,7 @@ wide d out h =
       parts_room = ltb-false (length d.parts) 513 e.1;
       owns_room = ltb-false (length d.part_owns) 521 c.1;
       room = (short_means d.memory).0 b.1;
-      out_room_lem = ltb-false (length out) 131072 a.1;
+      print_room = ltb-false (length out) 131072 a.1;
     }
 
 not_narrow : (d : Suspended) (out : List ℕ) → Wide d.words d.window d.parts d.part_owns d.memory out → narrow d out ≡ false
@@ -44,7 +44,7 @@ not_narrow d out w = rw (
   le-ltb (length d.parts) 513 w.parts_room,
   le-ltb (length d.part_owns) 521 w.owns_room,
   (short_means d.memory).1 w.room,
-  le-ltb (length out) 131072 w.out_room_lem,
+  le-ltb (length out) 131072 w.print_room,
 )
 
 pub narrow_means : NarrowMeans

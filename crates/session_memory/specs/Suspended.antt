@@ -53,7 +53,7 @@ pub record Wide (words window parts part_owns : List ℕ) (m : Memory) (out : Li
   pub parts_room : parts_kept ≤ length parts
   pub owns_room : owns_kept ≤ length part_owns
   pub room : Roomy m
-  pub out_room_lem : out_room ≤ length out
+  pub print_room : out_room ≤ length out
 
 -- 20.9: what a session comes to
 pub record Fits (d : Suspended) (out : List ℕ) : Type 0 where

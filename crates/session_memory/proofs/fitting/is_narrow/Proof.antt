@@ -24,6 +24,6 @@ is_narrow_spec =
       parts_room = omega arith;
       owns_room = omega arith;
       room = record { productions = omega arith; owns = omega arith; sets = omega arith; earlier = omega arith };
-      out_room_lem = h;
+      print_room = h;
     })
-    (λ w. w.out_room_lem)))
+    (λ w. w.print_room)))

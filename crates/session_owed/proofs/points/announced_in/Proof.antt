@@ -6,10 +6,10 @@ use Rattle.session_owed.proofs.points.announced_in.Statement.{statement}
 use Rattle.session_owed.proofs.points.announced_in.Tie as tie
 
 abbrev invariant_loop : tie.invariant-loop-i
-invariant_loop part_owns_lem taken sum₀ i₀ sum i = Summed part_owns_lem taken sum i
+invariant_loop part_owns taken sum₀ i₀ sum i = Summed part_owns taken sum i
 
 abbrev decreases_loop : tie.decreases-loop-i
-decreases_loop part_owns_lem taken sum₀ i₀ sum i = 8 - i
+decreases_loop part_owns taken sum₀ i₀ sum i = 8 - i
 
 loop_holds : tie.Need-loop-i-init invariant_loop decreases_loop
 loop_holds c = summed_start _ _

@@ -8,10 +8,10 @@ use Rattle.session_owed.proofs.points.points_in.Statement.{statement}
 use Rattle.session_owed.proofs.points.points_in.Tie as tie
 
 abbrev invariant_loop : tie.invariant-loop-i
-invariant_loop part_owns_lem points₀ i₀ points i = Filled part_owns_lem points i
+invariant_loop part_owns points₀ i₀ points i = Filled part_owns points i
 
 abbrev decreases_loop : tie.decreases-loop-i
-decreases_loop part_owns_lem points₀ i₀ points i = 8 - i
+decreases_loop part_owns points₀ i₀ points i = 8 - i
 
 loop_holds : tie.Need-loop-i-init invariant_loop decreases_loop
 loop_holds c = record { size = refl; same = λ j l. absurd (omega arith) }
