@@ -60,6 +60,7 @@ pub fn count(a: u64) -> u64
 }
 
 // The value of an equation where the left node's own set is `own` and its arguments are `a` and `b`.
+#[tactic(auto, unfolding(crate::specs::Operations::value_of))]
 pub fn value(equation: Equation, own: u64, a: u64, b: u64) -> u64
     ensures { ValueSays equation own a b result }
 {
