@@ -52,6 +52,10 @@ given_in n a b = by (ltb a n) (ltb b n) (λ h. ltb-true a n h) (λ h. ltb-true b
     by true true p q y (Memᴰ.tail (Memᴰ.head e)) = rw e (q refl)
     by true false p q y (Memᴰ.head e) = rw e (p refl)
     by false true p q y (Memᴰ.head e) = rw e (q refl)
+    by true true p q y (Memᴰ.tail (Memᴰ.tail m)) = elim m [ ]
+    by true false p q y (Memᴰ.tail m) = elim m [ ]
+    by false true p q y (Memᴰ.tail m) = elim m [ ]
+    by false false p q y m = elim m [ ]
 
 -- ---- due, member by member
 
