@@ -4,7 +4,7 @@ use mathlib.Core.Path.{◌≡◌, ap, ◌∙◌}
 use mathlib.Core.List.{[], ◌∷◌}
 use Prim.Native.Nat.{ℕ, ◌+◌, ◌*◌}
 use lib.Seq.{sets}
-use Rattle.text_line.specs.Text.{field, lineText}
+use Rattle.text_line.specs.Text.{field, line_text}
 use Rattle.text_frame.proofs.Printed.{refusal_line}
 use Rattle.refusal.specs.Numbers.{number_of}
 use borrow.Author.Rules.{rules}
@@ -19,7 +19,7 @@ returns c =
     let a = d.args in
     let v : w.before.wide.result * 4294967296 + w.wide-2.result ≡ number_of a.refusal * 4294967296 + a.line = λ i. (w.before.wide.ensures ∙ w.before.before.number.ensures) i * 4294967296 + w.wide-2.ensures i in (
       omega (arith, z.put_line.ensures.0),
-      z.put_line.ensures.1 ∙ ap (λ (x : ℕ). sets a.buffer.now a.place (lineText (field 2 0x1f ∷ field 10 x ∷ []))) v ∙ ap (sets a.buffer.now a.place) (refusal_line (number_of a.refusal) a.line (omega arith)),
+      z.put_line.ensures.1 ∙ ap (λ (x : ℕ). sets a.buffer.now a.place (line_text (field 2 0x1f ∷ field 10 x ∷ []))) v ∙ ap (sets a.buffer.now a.place) (refusal_line (number_of a.refusal) a.line (omega arith)),
     )
 
 pub put_refusal_spec : {M : Type 1} → statement M
