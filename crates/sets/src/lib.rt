@@ -1,6 +1,7 @@
 // Sets of hold reasons, and the equations over them: a set is a word with one bit for each reason code, 0 the empty one.
 // Codes 56 to 63 are notes: members like the others, but operation 7 does not count them.
 #![tactic(auto)]
+
 ghost use Rattle.sets.specs.Members.{MembersSay, CountSays};
 ghost use Rattle.sets.specs.Operations.{ValueSays};
 
