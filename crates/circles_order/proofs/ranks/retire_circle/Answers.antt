@@ -1,5 +1,5 @@
 -- What reads one member is touched, and on to the next member. Assumes nothing.
-use Rattle.std.proofs.Common.{ℕ, ◌≡◌, ◌+◌, get_or, arith, sym}
+use Rattle.std.proofs.Common.{◌≡◌, ◌+◌, get_or, arith, sym}
 use mathlib.Core.Path.{subst₂}
 use Rattle.circles_find.specs.Inner.Search.{Next, value_in}
 use Rattle.circles_order.proofs.Cursors.{moved_none, moved_join, walked_start, walked_more}

@@ -1,11 +1,10 @@
 -- The circle that is pulled is laid out, and what reads it is touched; where none is pulled the ranking is at its end. Assumes nothing.
-use Rattle.std.proofs.Common.{ℕ, ◌≡◌, suc, ◌+◌, ◌-◌, ◌<◌, length, get_or, arith, sym, ap, ◌∙◌}
+use Rattle.std.proofs.Common.{ℕ, ◌≡◌, suc, ◌+◌, ◌-◌, ◌<◌, arith, sym, ap, ◌∙◌}
 use mathlib.Core.Path.{subst₃}
 use lib.ListN.{set, length-set}
 use Rattle.circles.specs.Arrays.{graph_of}
 use Rattle.circles.specs.Ranked.{ranking, labels_of}
 use Rattle.circles.proofs.Ranking.{ranking_zero}
-use Rattle.circles_order.specs.Inner.Turns.{members_from}
 use Rattle.circles_order.proofs.Going.{Going, covered, going_first, going_room, going_more, going_end, listed_first, stops}
 use Rattle.circles_order.proofs.Taking.{lead, cursors_then, turn_then}
 use Rattle.circles_order.proofs.ranks.take_circles.Goals as goal
