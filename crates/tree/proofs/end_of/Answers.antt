@@ -1,6 +1,5 @@
 -- From child to child, and behind the last child is the end. Assumes nothing.
 use Rattle.std.proofs.Common.{◌≡◌, ◌+◌, ◌-◌, ◌<◌, length, arith, refl, sym, ◌∙◌, add-one}
-use Rattle.tree.specs.Tree.{child_at, span_end}
 use Rattle.tree.proofs.Size.{child_first, turn_in, turns_out, turn_last}
 use Rattle.tree.proofs.end_of.Goals as goal
 

@@ -1,5 +1,5 @@
 -- The slots below the root are listed, and the walks keep the order within the slots. Assumes nothing.
-use Rattle.std.proofs.Common.{◌≡◌, ◌-◌, ◌≤◌, length}
+use Rattle.std.proofs.Common.{◌-◌, ◌≤◌}
 use Rattle.circles_find.specs.Inner.Search.{Stated, Roll}
 use Rattle.circles_find.proofs.order.leaving_order.Given as goal
 

@@ -1,5 +1,5 @@
 -- The chains of the slots of the list from its place k on. Assumes nothing.
-use Rattle.std.proofs.Common.{◌≡◌, ◌≤◌, length}
+use Rattle.std.proofs.Common.{◌≤◌}
 use Rattle.circles_find.proofs.Rolls.{Members}
 use Rattle.circles_find.proofs.search.chain_members.Given as goal
 

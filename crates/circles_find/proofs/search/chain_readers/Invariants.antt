@@ -1,5 +1,5 @@
 -- The chains of the places of the slots of the list from its place k on, two links a turn. Assumes nothing.
-use Rattle.std.proofs.Common.{◌≡◌, ◌≤◌, length}
+use Rattle.std.proofs.Common.{◌≤◌}
 use Rattle.circles_find.proofs.Rolls.{Readers}
 use Rattle.circles_find.proofs.search.chain_readers.Given as goal
 

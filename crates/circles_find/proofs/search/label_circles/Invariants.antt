@@ -1,5 +1,5 @@
 -- A seed a turn, in whatever order; the first j of the list have their label. Assumes nothing.
-use Rattle.std.proofs.Common.{◌≡◌, ◌+◌, ◌-◌, ◌≤◌, length}
+use Rattle.std.proofs.Common.{◌+◌, ◌-◌, ◌≤◌, length}
 use Rattle.circles_find.specs.Inner.Labels.{Reps, Stale}
 use Rattle.circles_find.proofs.Rounds.{Labelled}
 use Rattle.circles_find.proofs.search.label_circles.Given as goal

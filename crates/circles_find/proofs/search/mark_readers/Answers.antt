@@ -1,8 +1,8 @@
 -- What the search's front says of a turn, of its start and of its end. Assumes nothing.
-use Rattle.std.proofs.Common.{ℕ, ◌≡◌, ◌<◌, length, get_or, arith, sym, subst, ap, ◌∙◌}
+use Rattle.std.proofs.Common.{ℕ, ◌≡◌, ◌<◌, get_or, arith, sym, subst, ap, ◌∙◌}
 use lib.ListN.{set, length-set}
 use Rattle.circles_find.specs.Inner.Search.{Arg, Back}
-use Rattle.circles_find.proofs.Front.{Front, Grew, done_kept, started, ended, found_before, front_le, front_room, done_more, lone}
+use Rattle.circles_find.proofs.Front.{Front, Grew, done_kept, started, ended, found_before, front_le, done_more, lone}
 use Rattle.circles_find.proofs.Sweeps.{looks_front}
 use Rattle.circles_find.proofs.search.mark_readers.Goals as goal
 

@@ -1,10 +1,10 @@
 -- What the search's front says of a turn, of its start and of its end. Assumes nothing.
-use Rattle.std.proofs.Common.{ℕ, ◌≡◌, ◌<◌, List, length, get_or, arith, refl, sym, subst, ap, ◌∙◌}
+use Rattle.std.proofs.Common.{ℕ, ◌≡◌, ◌<◌, List, get_or, arith, refl, sym, subst, ap, ◌∙◌}
 use mathlib.Core.Logic.{◌⊎◌, inl, inr, ⊎_elim}
 use lib.ListN.{set, length-set}
 use Rattle.circles_find.specs.Inner.Search.{Arg, Stated, Visited}
 use Rattle.circles_find.proofs.Rounds.{way_stated}
-use Rattle.circles_find.proofs.Front.{Front, Grew, Looked, grew_join, done_kept, looked, started, ended, found_before, front_le, front_room, done_more, seen_at}
+use Rattle.circles_find.proofs.Front.{Front, Looked, grew_join, done_kept, looked, started, ended, found_before, front_le, front_room, done_more, seen_at}
 use Rattle.circles_find.proofs.search.mark_reads.Goals as goal
 
 module _ (n : ℕ) (a b okay : List ℕ) (k x : ℕ) (m₀ m q : List ℕ) (t v : ℕ) where

@@ -1,5 +1,5 @@
 -- The search's front, with two looks a turn. Assumes nothing.
-use Rattle.std.proofs.Common.{◌≡◌, ◌-◌, ◌≤◌, length}
+use Rattle.std.proofs.Common.{◌-◌, ◌≤◌, length}
 use Rattle.circles_find.specs.Inner.Search.{Arg}
 use Rattle.circles_find.proofs.Front.{Front, Done}
 use Rattle.circles_find.proofs.search.mark_reads.Given as goal

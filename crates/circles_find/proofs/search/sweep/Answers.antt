@@ -1,5 +1,5 @@
 -- One look, and on to the next place of the chain. Assumes nothing.
-use Rattle.std.proofs.Common.{ℕ, ◌≡◌, ◌+◌, ◌*◌, ◌/◌, ◌<◌, get_or, arith, sym, subst}
+use Rattle.std.proofs.Common.{ℕ, ◌≡◌, ◌+◌, ◌*◌, ◌/◌, get_or, arith, sym, subst}
 use mathlib.Core.Path.{subst₂}
 use Rattle.circles_find.specs.Inner.Search.{begin, look, Next, arg_of}
 use Rattle.circles_find.proofs.Sweeps.{Seen, Kept, visited_kept, seen_more}

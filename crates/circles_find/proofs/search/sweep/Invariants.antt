@@ -1,5 +1,5 @@
 -- The looks along the chain of readers, up to where it stands. Assumes nothing.
-use Rattle.std.proofs.Common.{◌≡◌, ◌-◌, ◌*◌, length}
+use Rattle.std.proofs.Common.{◌-◌, ◌*◌}
 use Rattle.circles_find.specs.Inner.Search.{Looks, Room, Back, Arg, arg_of}
 use Rattle.circles_find.proofs.Sweeps.{Seen}
 use Rattle.circles_find.proofs.Chains.{Upto}

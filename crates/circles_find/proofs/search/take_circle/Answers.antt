@@ -1,5 +1,5 @@
 -- The circle of a seed by two searches, the second spared where the first finds the seed alone. Assumes nothing.
-use Rattle.std.proofs.Common.{length, arith}
+use Rattle.std.proofs.Common.{arith}
 use lib.ListN.{set, length-set}
 use Rattle.circles_find.proofs.Rounds.{found_lone, readers_stated, took}
 use Rattle.circles_find.proofs.search.take_circle.Goals as goal
