@@ -8,5 +8,3 @@ invariant-loop-at l = SparedFrom l.node l.r l.at
 
 abbrev pub decreases-loop-at : goal.decreases-loop-at
 decreases-loop-at l = l.r.count - l.at
-
--- the point has a place, and numbers that add up
