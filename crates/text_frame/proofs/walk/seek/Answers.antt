@@ -1,6 +1,6 @@
 -- One step of seeking, and its end. Assumes nothing.
 use native.Mathlib.Omega.{arith}
-use mathlib.Core.Path.{◌≡◌, sym, ◌∙◌}
+use mathlib.Core.Path.{sym, ◌∙◌}
 use Rattle.table.specs.Words.{child_count}
 use Rattle.text_frame.proofs.Seeking.{seek_goes, seek_stops, seek_ends}
 use Rattle.text_frame.proofs.walk.seek.Goals as goal

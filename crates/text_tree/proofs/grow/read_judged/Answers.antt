@@ -30,5 +30,5 @@ returns-in-Refused-judge_read c =
     let a = c.args in
     let r = c.read_lines-found in
     let k = c.in-Read in
-    rw (read_refused a.table.now a.text.now a.place a.line (replicate 512 0) (replicate 512 0) refl refl r.new.productions r.new.owns r.ensures.1 k.count k.rest k.l (found (tree_at a.text.now a.place a.line) k.count k.rest k.l (sym k.ensures.0)) (length a.productions.now) (length a.owns.now) ? ?)
+    rw (read_refused a.table.now a.text.now a.place a.line (replicate 512 0) (replicate 512 0) refl refl r.new.productions r.new.owns r.ensures.1 k.count k.rest k.l (found (tree_at a.text.now a.place a.line) k.count k.rest k.l (sym k.ensures.0)) (length a.productions.now) (length a.owns.now) c.in-Refused-judge_read.r c.in-Refused-judge_read.ensures)
     (refl, (refl, refl))
