@@ -5,10 +5,9 @@ use mathlib.Core.List.{List, [], ◌∷◌}
 use Prim.Native.Nat.{ℕ, zero, suc, ◌+◌, ◌≤◌, ◌<◌}
 use native.Mathlib.Omega.{arith}
 use borrow.Author.Tests.{lt-ltb, le-ltb}
-use types.Run.{OneOf, miss}
-use denote.Enum.Declared.{tag_of}
 use lib.Dec.{ltb}
 use lib.ListN.{length, set, length-set}
+use Rattle.refusal.specs.declared.Refusal.{Refusal}
 use Rattle.update.specs.declared.Record.{Record}
 use Rattle.update.specs.Memories.{Memory}
 use Rattle.text_frame.specs.declared.Expected.{Expected}
@@ -18,8 +17,6 @@ use Rattle.text_frame.specs.declared.Frame.TheVariants.{Rule, Node, Point, Chang
 use Rattle.text_frame.specs.declared.Change as change
 use Rattle.text_frame.specs.declared.Change.TheVariants.{Load, Replace, Corrections}
 use Rattle.text_table.specs.Read.{words_after, taken_at}
-use Rattle.text_frame.specs.contracts.Expected as X
-use Rattle.text_frame.specs.contracts.Frame as F
 use Rattle.session.specs.Session.{dump_told}
 use Rattle.tree.specs.Handed.{announced}
 use Rattle.session_owed.specs.Owed.{named_in}
@@ -28,13 +25,6 @@ use Rattle.session_owed.specs.declared.Coming.{Coming}
 use Rattle.session_owed.specs.declared.Coming.TheVariants as coming
 use Rattle.session_owed.specs.declared.Awaited.{Awaited}
 use Rattle.session_owed.specs.declared.Awaited.TheVariants.{Table, Command, Naming, Nodes, Working, Stopped}
-
-pub not_ended : (x : Expected) → OneOf (0 ∷ 1 ∷ 2 ∷ 3 ∷ []) (tag_of X.the_type x) → Table x ≡ awaited_of x
-not_ended AtHeader k = refl
-not_ended (AtSymbol s) k = refl
-not_ended (AtProduction p) k = refl
-not_ended (AtEquation p q l) k = refl
-not_ended Ended k = absurd (miss (0 ∷ 1 ∷ 2 ∷ 3 ∷ []) 4 tt k)
 
 -- ---- a node kept, and one too many
 module _ (taken x : ℕ) (xs : List ℕ) where
@@ -70,42 +60,42 @@ module _ (taken point count : ℕ) (os : List ℕ) where
 
 -- ---- a frame by its tag
 module _ (t ps os : List ℕ) (m : Memory) (r : Record) where
-  pub not_refused : (f : Frame) (line : ℕ) → OneOf (0 ∷ 1 ∷ 2 ∷ 3 ∷ 4 ∷ 6 ∷ []) (tag_of F.the_type f) → strange t ps os m r f line ≡ stopped t ps os m r 14 line
+  pub not_refused : (f : Frame) (line : ℕ) → ((a : Refusal) (b : ℕ) → f ≡ Refused a b → ⊥) → strange t ps os m r f line ≡ stopped t ps os m r 14 line
   not_refused (Rule a) line k = refl
   not_refused (Node a b) line k = refl
   not_refused (Point a b) line k = refl
   not_refused (Change a) line k = refl
   not_refused Dump line k = refl
-  not_refused (Refused a b) line k = absurd (miss (0 ∷ 1 ∷ 2 ∷ 3 ∷ 4 ∷ 6 ∷ []) 5 tt k)
+  not_refused (Refused a b) line k = absurd (k a b refl)
   not_refused Over line k = refl
 
-  pub no_command : (f : Frame) (line : ℕ) → OneOf (0 ∷ 1 ∷ 2 ∷ 5 ∷ 6 ∷ []) (tag_of F.the_type f) → commanded t ps os m r f line ≡ strange t ps os m r f line
+  pub no_command : (f : Frame) (line : ℕ) → ((a : change.Change) → f ≡ Change a → ⊥) → (f ≡ Dump → ⊥) → commanded t ps os m r f line ≡ strange t ps os m r f line
   unfolding commanded
-  no_command (Rule a) line k = refl
-  no_command (Node a b) line k = refl
-  no_command (Point a b) line k = refl
-  no_command (Change a) line k = absurd (miss (0 ∷ 1 ∷ 2 ∷ 5 ∷ 6 ∷ []) 3 tt k)
-  no_command Dump line k = absurd (miss (0 ∷ 1 ∷ 2 ∷ 5 ∷ 6 ∷ []) 4 tt k)
-  no_command (Refused a b) line k = refl
-  no_command Over line k = refl
+  no_command (Rule a) line k d = refl
+  no_command (Node a b) line k d = refl
+  no_command (Point a b) line k d = refl
+  no_command (Change a) line k d = absurd (k a refl)
+  no_command Dump line k d = absurd (d refl)
+  no_command (Refused a b) line k d = refl
+  no_command Over line k d = refl
 
-  pub no_node : (o : Coming) (count taken command : ℕ) (f : Frame) (line : ℕ) → OneOf (0 ∷ 2 ∷ 3 ∷ 4 ∷ 5 ∷ 6 ∷ []) (tag_of F.the_type f)
+  pub no_node : (o : Coming) (count taken command : ℕ) (f : Frame) (line : ℕ) → ((a b : ℕ) → f ≡ Node a b → ⊥)
       → noded o count taken command f line t ps os m r ≡ strange t ps os m r f line
   unfolding noded
   no_node o count taken command (Rule a) line k = refl
-  no_node o count taken command (Node a b) line k = absurd (miss (0 ∷ 2 ∷ 3 ∷ 4 ∷ 5 ∷ 6 ∷ []) 1 tt k)
+  no_node o count taken command (Node a b) line k = absurd (k a b refl)
   no_node o count taken command (Point a b) line k = refl
   no_node o count taken command (Change a) line k = refl
   no_node o count taken command Dump line k = refl
   no_node o count taken command (Refused a b) line k = refl
   no_node o count taken command Over line k = refl
 
-  pub no_point : (count taken command : ℕ) (f : Frame) (line : ℕ) → OneOf (0 ∷ 1 ∷ 3 ∷ 4 ∷ 5 ∷ 6 ∷ []) (tag_of F.the_type f)
+  pub no_point : (count taken command : ℕ) (f : Frame) (line : ℕ) → ((a b : ℕ) → f ≡ Point a b → ⊥)
       → pointed count taken command f line t ps os m r ≡ strange t ps os m r f line
   unfolding pointed
   no_point count taken command (Rule a) line k = refl
   no_point count taken command (Node a b) line k = refl
-  no_point count taken command (Point a b) line k = absurd (miss (0 ∷ 1 ∷ 3 ∷ 4 ∷ 5 ∷ 6 ∷ []) 2 tt k)
+  no_point count taken command (Point a b) line k = absurd (k a b refl)
   no_point count taken command (Change a) line k = refl
   no_point count taken command Dump line k = refl
   no_point count taken command (Refused a b) line k = refl

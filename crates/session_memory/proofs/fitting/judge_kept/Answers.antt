@@ -4,10 +4,8 @@ use mathlib.Core.Bool.{true, false}
 use mathlib.Core.List.{List, [], ◌∷◌}
 use Prim.Native.Nat.{ℕ}
 use native.Mathlib.Omega.{arith}
-use borrow.Author.Rules.{rules}
 use Rattle.refusal.specs.Numbers.{number_of}
 use Rattle.refusal.specs.declared.Refusal.{Refusal}
-use Rattle.refusal.proofs.Distinct.{sound_zero, refused_number}
 use Rattle.refusal.specs.Orders.{Order, refusal_by}
 use Rattle.refusal.proofs.Orders.{past, stopped}
 use Rattle.update.specs.declared.Record.{Record}
@@ -15,8 +13,7 @@ use Rattle.update.specs.Memories.{lent, Memory}
 use Rattle.update.specs.Refusals.{held_refusal, ground_order, held_order}
 use Rattle.update_judge.proofs.Orders.{grounded}
 use Rattle.session_memory.specs.Refusals.{if_held, kept_order}
-use Rattle.session_memory.proofs.fitting.judge_kept.Statement.{statement}
-use Rattle.session_memory.proofs.fitting.judge_kept.Tie as tie
+use Rattle.session_memory.proofs.fitting.judge_kept.Goals as goal
 
 module _ (t : List ℕ) (m : Memory) (r : Record) where
   abbrev tree : Order
@@ -39,14 +36,16 @@ module _ (t : List ℕ) (m : Memory) (r : Record) where
   no_ground : (q : Refusal) → number_of q ≡ refusal_by (ground_order t m r) → number_of q ≡ refusal_by (kept_order t m r)
   no_ground q e = stopped (ground_order t m r) tree q e
 
-pub judge_kept_spec : {M : Type 1} → statement M
-judge_kept_spec =
-    tie.close
-    (tie.spec
-    (λ c κs. search rules)
-    (λ c. search rules)
-    (λ c κs. let a = c.before.before.before.before.before.before.before.before.args in let g = grounded a.table.now (lent a.held.now a.held_owns.now a.sets.now a.earlier.now) a.«record» (sound_zero c.before.enum_told.given.1 c.before.before.before.judge_ground.ensures) in (g.table, (omega (arith, g.room.productions, g.within.nodes), omega (arith, g.room.owns, g.within.nodes))))
-    (λ c. let a = c.before.before.before.before.before.before.before.before.before.args in held a.table.now (lent a.held.now a.held_owns.now a.sets.now a.earlier.now) a.«record» _ (sound_zero c.before.before.enum_told.given.1 c.before.before.before.before.judge_ground.ensures) c.before.if-record.true c.judge_holding.ensures)
-    (λ c. search rules)
-    (λ c. let a = c.before.before.before.before.before.before.before.before.args in none_held a.table.now (lent a.held.now a.held_owns.now a.sets.now a.earlier.now) a.«record» (sound_zero c.before.enum_told.given.1 c.before.before.before.judge_ground.ensures) c.if-record.false)
-    (λ c. let a = c.before.before.before.before.before.before.before.before.args in no_ground a.table.now (lent a.held.now a.held_owns.now a.sets.now a.earlier.now) a.«record» c.before.r.given.0.0 (refused_number c.before.r.given.1 c.before.before.before.judge_ground.ensures)))
+pub judge_holding-requires : goal.judge_holding-requires
+judge_holding-requires c =
+    let g = grounded c.args.table.now (lent c.args.held.now c.args.held_owns.now c.args.sets.now c.args.earlier.now) c.args.«record» (sym c.in-Sound.ensures) in
+    record { table_value = g.table; record_in_bounds = (omega (arith, g.room.productions, g.within.nodes), omega (arith, g.room.owns, g.within.nodes)) }
+
+pub returns-then-record : goal.returns-then-record
+returns-then-record c = held c.args.table.now (lent c.args.held.now c.args.held_owns.now c.args.sets.now c.args.earlier.now) c.args.«record» _ (sym c.in-Sound.ensures) c.if-record.true c.judge_holding.ensures
+
+pub returns-else-record : goal.returns-else-record
+returns-else-record c = none_held c.args.table.now (lent c.args.held.now c.args.held_owns.now c.args.sets.now c.args.earlier.now) c.args.«record» (sym c.in-Sound.ensures) c.if-record.false
+
+pub returns-in-Refused : goal.returns-in-Refused
+returns-in-Refused c = no_ground c.args.table.now (lent c.args.held.now c.args.held_owns.now c.args.sets.now c.args.earlier.now) c.args.«record» c.in-Refused.r c.in-Refused.ensures

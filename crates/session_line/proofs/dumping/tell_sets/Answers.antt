@@ -1,0 +1,43 @@
+-- 10, then 16, then the sets, each written by one call. Assumes nothing.
+use Rattle.session_line.proofs.Dumps.{dump_busy, dump_absent, dump_sets, told_most, told_refused}
+use Rattle.text_sets.proofs.Slots.{tellable}
+use Rattle.update.specs.Memories.{lent}
+use native.Mathlib.Omega.{arith}
+use lib.Seq.{sets}
+use lib.ListN.{length, take}
+use Prim.Native.Nat.{◌+◌, ◌*◌}
+use mathlib.Core.Path.{refl, ap, sym, ◌∙◌}
+use Rattle.session_line.proofs.dumping.tell_sets.Goals as goal
+
+pub returns-then-is_open : goal.returns-then-is_open
+returns-then-is_open c =
+    let a = c.args in
+    let e = c.put_refusal.ensures in
+    let d = dump_busy a.table.now (lent c.args.held.now c.args.held_owns.now c.args.sets.now c.args.earlier.now) a.«record» a.line c.requires.holding (sym c.is_open.ensures ∙ c.if-is_open.true) in
+    let p = told_refused 10 a.line a.printed _ a.out.now _ _ d e.0 e.1 in
+    (refl, refl, p.0, p.1)
+
+pub returns-then-not-record : goal.returns-then-not-record
+returns-then-not-record c =
+    let a = c.args in
+    let e = c.put_refusal-then-not-record.ensures in
+    let d = dump_absent a.table.now (lent c.args.held.now c.args.held_owns.now c.args.sets.now c.args.earlier.now) a.«record» a.line c.requires.holding (sym c.is_open.ensures ∙ c.if-is_open.false) c.if-not-record.true in
+    let p = told_refused 16 a.line a.printed _ a.out.now _ _ d e.0 e.1 in
+    (refl, refl, p.0, p.1)
+
+pub put_sets-requires : goal.put_sets-requires
+put_sets-requires c =
+    let a = c.args in
+    let n = a.«record».nodes in
+    let k = c.requires.holding in
+    record {
+      tellable = tellable a.table.now (lent c.args.held.now c.args.held_owns.now c.args.sets.now c.args.earlier.now) a.«record» k.ground (k.tree c.if-not-record.false);
+      nodes_in_bounds = omega (arith, told_most a.table.now (take n a.held.now) a.sets.now (8 * n) 0, k.ground.within.nodes, c.requires.spacious.room);
+    }
+
+pub returns : goal.returns
+returns c =
+    let a = c.args in
+    let e = c.put_sets.ensures in
+    let d = dump_sets a.table.now (lent c.args.held.now c.args.held_owns.now c.args.sets.now c.args.earlier.now) a.«record» a.line c.requires.holding (sym c.is_open.ensures ∙ c.if-is_open.false) c.if-not-record.false in
+    (refl, refl, e.0 ∙ ap (λ l. a.printed + length l) d, e.1 ∙ ap (sets a.out.now a.printed) d)
