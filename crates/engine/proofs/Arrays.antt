@@ -11,16 +11,16 @@ use Rattle.engine.proofs.Preparing.{prepared_holds}
 
 module _ (t : List ℕ) (m : Memory) (r : Record) (k : Going t m r) where
   tree_long : length (nodes_of m r.nodes) ≡ r.nodes
-  tree_long = length-take-le r.nodes m.productions (omega (arith, k.ground.room.productions, k.ground.within.nodes))
+  tree_long = length-take-le r.nodes m.productions (omega (arith, k.footing.room.productions, k.footing.within.nodes))
 
   owns_long : length (owns_of m r.nodes) ≡ r.nodes
-  owns_long = length-take-le r.nodes m.owns (omega (arith, k.ground.room.owns, k.ground.within.nodes))
+  owns_long = length-take-le r.nodes m.owns (omega (arith, k.footing.room.owns, k.footing.within.nodes))
 
   pub sound : Held t (nodes_of m r.nodes)
   sound = record {
-    judged = k.ground.table;
+    judged = k.footing.table;
     sound = tree_sound t (nodes_of m r.nodes) (owns_of m r.nodes) 0 k.tree;
-    few = omega (arith, tree_long, k.ground.within.nodes);
+    few = omega (arith, tree_long, k.footing.within.nodes);
   }
 
   owned : length (nodes_of m r.nodes) ≤ length (owns_of m r.nodes)

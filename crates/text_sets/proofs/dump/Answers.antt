@@ -12,7 +12,7 @@ sets_length-n-requires c =
     let a = c.args in
     let m = lent a.held.now a.held_owns.now a.sets.now a.earlier.now in
     let k = looked a.table.now m a.«record» (sym c.in-Sound.ensures) in
-    tellable a.table.now m a.«record» k.ground k.tree
+    tellable a.table.now m a.«record» k.footing k.tree
 
 pub returns-then-text-n : goal.returns-then-text-n
 returns-then-text-n c =
@@ -26,7 +26,7 @@ put_sets-requires-clause-tellable c =
     let a = c.args in
     let m = lent a.held.now a.held_owns.now a.sets.now a.earlier.now in
     let k = looked a.table.now m a.«record» (sym c.in-Sound.ensures) in
-    tellable a.table.now m a.«record» k.ground k.tree
+    tellable a.table.now m a.«record» k.footing k.tree
 
 pub returns-else-text-n : goal.returns-else-text-n
 returns-else-text-n c =

@@ -42,7 +42,7 @@ module _ (t : List ℕ) (m : Memory) (r : Record) (points : Places) (g : Grounde
   inside = rw tree_long n.inside
 
   holding : Holding t m r
-  holding = record { ground = g; tree = λ h. z }
+  holding = record { footing = g; tree = λ h. z }
 
   aimed : (cs : Cuts) → Cutting t tree (named_points points) cs → Aimed t tree points cs
   aimed cs h = record { table = g.table; tree = sound; few = few; cutting = h; some = (counted points n.counted).some; inside = inside }

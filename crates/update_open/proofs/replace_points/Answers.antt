@@ -7,7 +7,7 @@ use Rattle.update_open.proofs.Answers.{aim_refused}
 use Rattle.update_open.proofs.replace_points.Goals as goal
 
 pub replace_points_judged-requires : goal.replace_points_judged-requires
-replace_points_judged-requires c = let k = aimed_at c.args.table.now (lent c.args.held.now c.args.held_owns.now c.args.sets.now c.args.earlier.now) c.args.«record» (bare_row (named_points c.args.points)) (sym c.in-Sound.ensures) in record { ground = k.ground; tree = λ h. k.tree }
+replace_points_judged-requires c = let k = aimed_at c.args.table.now (lent c.args.held.now c.args.held_owns.now c.args.sets.now c.args.earlier.now) c.args.«record» (bare_row (named_points c.args.points)) (sym c.in-Sound.ensures) in record { footing = k.footing; tree = λ h. k.tree }
 
 pub returns-in-Refused : goal.returns-in-Refused
 returns-in-Refused c = aim_refused c.args.table.now (lent c.args.held.now c.args.held_owns.now c.args.sets.now c.args.earlier.now) c.args.«record» c.args.points c.args.new.now c.args.new_owns.now c.in-Refused.r c.in-Refused.ensures

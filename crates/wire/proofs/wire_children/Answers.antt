@@ -77,7 +77,7 @@ pub inherited_of-requires : goal.inherited_of-requires
 inherited_of-requires c = rw (symbol_is c.args.table.now c.args.productions.now c.requires.held c.args.q c.requires.q_in_bounds c.index-p.result c.args.children c.index-p.ensures.0 c.requires.children_value c.loop-number.at c.loop-number.number _ refl c.loop-number.invariant.0.1 c.loop-number-test.true c.args.named.now c.requires.named c.wide-x.result c.wide-x.ensures _ _ c.index.ensures.0 c.left_of-s.ensures) (symbol_small c.args.table.now c.args.productions.now c.requires.held c.args.q c.requires.q_in_bounds c.loop-number.at (within c.args.table.now c.args.productions.now c.requires.held c.args.q c.requires.q_in_bounds c.index-p.result c.args.children c.index-p.ensures.0 c.requires.children_value c.loop-number.at c.loop-number.number _ refl c.loop-number.invariant.0.1 c.loop-number-test.true))
 
 pub wire_sets-requires-clause-sets : goal.wire_sets-requires-clause-sets
-wire_sets-requires-clause-sets c = 
+wire_sets-requires-clause-sets c =
     let v = c.loop-number.invariant.0 in
     record {
       within = within c.args.table.now c.args.productions.now c.requires.held c.args.q c.requires.q_in_bounds c.index-p.result c.args.children c.index-p.ensures.0 c.requires.children_value c.loop-number.at c.loop-number.number _ refl c.loop-number.invariant.0.1 c.loop-number-test.true;
@@ -88,5 +88,5 @@ wire_sets-requires-clause-sets c =
     }
 
 pub returns-clause-partly_2 : goal.returns-clause-partly_2
-returns-clause-partly_2 c = 
+returns-clause-partly_2 c =
     skip_rest c.args.table.now c.args.productions.now c.requires.held c.args.q c.requires.q_in_bounds c.loop-number.at _ _ _ _ (omega (arith, c.requires.children_value, c.loop-number.invariant.0, c.loop-number-test.false)) c.loop-number.invariant.1

@@ -117,7 +117,7 @@ pub overflow_cast-rule : goal.overflow_cast-rule
 overflow_cast-rule c = omega (arith, rule_small c.args.table.now c.args.productions.now c.requires.held c.args.q c.requires.q_in_bounds c.args.at c.args.number c.args.heads c.args.from c.args.count c.requires.sets c.loop-i.i c.if-count-i.false)
 
 pub loop-i-preserved : goal.loop-i-preserved
-loop-i-preserved c = 
+loop-i-preserved c =
     let k = c.loop-i in
     let h = head_is c.args.table.now c.args.productions.now c.requires.held c.args.q c.requires.q_in_bounds c.args.at c.args.number c.args.heads c.args.from c.args.count c.requires.sets c.loop-i.i c.if-count-i.false in
     let r = c.reads_in-reads.ensures in (

@@ -15,17 +15,17 @@ use Rattle.engine.proofs.reading.read.Goals as goal
 -- a declared instance has its place in the sets
 inside : (t : List ℕ) (m : Memory) (r : Record) → Looked t m r → (x : ℕ) → declared t (nodes_of m r.nodes) x ≡ true → x < length m.sets
 inside t m r k x d =
-    let g = k.ground in
+    let g = k.footing in
     omega (arith, declared_below t (nodes_of m r.nodes) x d, length-take-le r.nodes m.productions (omega (arith, g.room.productions, g.within.nodes)), g.room.sets, g.within.nodes)
 
 pub is_declared-requires-clause-limits : goal.is_declared-requires-clause-limits
-is_declared-requires-clause-limits c = limits c.args.table.now (looked c.args.table.now (lent c.args.held.now c.args.held_owns.now c.args.sets.now c.args.earlier.now) c.args.«record» (sym c.in-Sound.ensures)).ground.table
+is_declared-requires-clause-limits c = limits c.args.table.now (looked c.args.table.now (lent c.args.held.now c.args.held_owns.now c.args.sets.now c.args.earlier.now) c.args.«record» (sym c.in-Sound.ensures)).footing.table
 
 pub is_declared-requires-clause-numbered : goal.is_declared-requires-clause-numbered
 is_declared-requires-clause-numbered c = judged_numbered c.args.table.now (take c.args.«record».nodes c.args.held.now) (0 ∷ []) (tree_sound c.args.table.now (take c.args.«record».nodes c.args.held.now) (take c.args.«record».nodes c.args.held_owns.now) 0 (looked c.args.table.now (lent c.args.held.now c.args.held_owns.now c.args.sets.now c.args.earlier.now) c.args.«record» (sym c.in-Sound.ensures)).tree)
 
 pub is_declared-requires-clause-nodes_in_bounds : goal.is_declared-requires-clause-nodes_in_bounds
-is_declared-requires-clause-nodes_in_bounds c = let g = (looked c.args.table.now (lent c.args.held.now c.args.held_owns.now c.args.sets.now c.args.earlier.now) c.args.«record» (sym c.in-Sound.ensures)).ground in omega (arith, g.room.productions, g.within.nodes)
+is_declared-requires-clause-nodes_in_bounds c = let g = (looked c.args.table.now (lent c.args.held.now c.args.held_owns.now c.args.sets.now c.args.earlier.now) c.args.«record» (sym c.in-Sound.ensures)).footing in omega (arith, g.room.productions, g.within.nodes)
 
 pub offset_bounds-sets-instance : goal.offset_bounds-sets-instance
 offset_bounds-sets-instance c = let l = inside c.args.table.now (lent c.args.held.now c.args.held_owns.now c.args.sets.now c.args.earlier.now) c.args.«record» (looked c.args.table.now (lent c.args.held.now c.args.held_owns.now c.args.sets.now c.args.earlier.now) c.args.«record» (sym c.in-Sound.ensures)) c.args.instance (sym c.is_declared.ensures ∙ c.if-is_declared.true) in omega arith

@@ -32,12 +32,12 @@ pub place_owns-requires-clause-owns_len_bound : goal.place_owns-requires-clause-
 place_owns-requires-clause-owns_len_bound c = owns_few c.args.table.now _ c.args.nodes c.args.points c.args.cuts c.args.new.now c.args.new_owns.now (lending (goal.at.place_owns-requires-clause-owns_len_bound c).Start)
 
 pub slice_bounds-arrange_sets-end : goal.slice_bounds-arrange_sets-end
-slice_bounds-arrange_sets-end c = 
+slice_bounds-arrange_sets-end c =
     let few : c.place_nodes-count.result ≤ 512 = omega (arith, c.place_nodes-count.ensures.value, nodes_few c.args.table.now _ c.args.nodes c.args.points c.args.cuts c.args.new.now c.args.new_owns.now (lending (goal.at.slice_bounds-arrange_sets-end c).Start)) in
     omega (arith, few)
 
 pub slice_bounds-arrange_sets-end-2 : goal.slice_bounds-arrange_sets-end-2
-slice_bounds-arrange_sets-end-2 c = 
+slice_bounds-arrange_sets-end-2 c =
     let few : c.place_nodes-count.result ≤ 512 = omega (arith, c.place_nodes-count.ensures.value, nodes_few c.args.table.now _ c.args.nodes c.args.points c.args.cuts c.args.new.now c.args.new_owns.now (lending (goal.at.slice_bounds-arrange_sets-end-2 c).Start)) in
     let front : length (take c.place_nodes-count.result c.place_nodes-count.new.held) ≡ c.place_nodes-count.result = length-take-le c.place_nodes-count.result c.place_nodes-count.new.held (omega (arith, few)) in
     omega (arith, front)
@@ -49,7 +49,7 @@ pub arrange_sets-requires-clause-numbered : goal.arrange_sets-requires-clause-nu
 arrange_sets-requires-clause-numbered c = tree_numbered c.args.table.now _ c.args.nodes c.args.points c.args.cuts c.args.new.now c.args.new_owns.now (lending (goal.at.arrange_sets-requires-clause-numbered c).Start) c.place_nodes-count.new.held c.place_nodes-count.result c.place_nodes-count.ensures.held_after c.place_nodes-count.ensures.value
 
 pub arrange_sets-requires-clause-nodes_in_bounds : goal.arrange_sets-requires-clause-nodes_in_bounds
-arrange_sets-requires-clause-nodes_in_bounds c = 
+arrange_sets-requires-clause-nodes_in_bounds c =
     let few : c.place_nodes-count.result ≤ 512 = omega (arith, c.place_nodes-count.ensures.value, nodes_few c.args.table.now _ c.args.nodes c.args.points c.args.cuts c.args.new.now c.args.new_owns.now (lending (goal.at.arrange_sets-requires-clause-nodes_in_bounds c).Start)) in
     let front : length (take c.place_nodes-count.result c.place_nodes-count.new.held) ≡ c.place_nodes-count.result = length-take-le c.place_nodes-count.result c.place_nodes-count.new.held (omega (arith, few)) in
     (omega arith, omega (arith, front, few))
@@ -61,23 +61,23 @@ pub arrange_sets-requires-clause-sets_in_bounds : goal.arrange_sets-requires-cla
 arrange_sets-requires-clause-sets_in_bounds c = sets_few c.args.table.now _ c.args.nodes c.args.points c.args.cuts c.args.new.now c.args.new_owns.now (lending (goal.at.arrange_sets-requires-clause-sets_in_bounds c).Start)
 
 pub overflow_mul-slots : goal.overflow_mul-slots
-overflow_mul-slots c = 
+overflow_mul-slots c =
     let few : c.place_nodes-count.result ≤ 512 = omega (arith, c.place_nodes-count.ensures.value, nodes_few c.args.table.now _ c.args.nodes c.args.points c.args.cuts c.args.new.now c.args.new_owns.now (lending (goal.at.overflow_mul-slots c).Start)) in
     omega (arith, few)
 
 pub slice_bounds-fill_sets-end : goal.slice_bounds-fill_sets-end
-slice_bounds-fill_sets-end c = 
+slice_bounds-fill_sets-end c =
     let few : c.place_nodes-count.result ≤ 512 = omega (arith, c.place_nodes-count.ensures.value, nodes_few c.args.table.now _ c.args.nodes c.args.points c.args.cuts c.args.new.now c.args.new_owns.now (lending (goal.at.slice_bounds-fill_sets-end c).Start)) in
     omega (arith, few)
 
 pub slice_bounds-fill_sets-end-2 : goal.slice_bounds-fill_sets-end-2
-slice_bounds-fill_sets-end-2 c = 
+slice_bounds-fill_sets-end-2 c =
     let few : c.place_nodes-count.result ≤ 512 = omega (arith, c.place_nodes-count.ensures.value, nodes_few c.args.table.now _ c.args.nodes c.args.points c.args.cuts c.args.new.now c.args.new_owns.now (lending (goal.at.slice_bounds-fill_sets-end-2 c).Start)) in
     let s : 8 * c.place_nodes-count.result ≤ length c.arrange_sets.new.out = omega (arith, few) in
     omega (arith, length-take-le (8 * c.place_nodes-count.result) c.arrange_sets.new.out s)
 
 pub fill_sets-requires : goal.fill_sets-requires
-fill_sets-requires c = 
+fill_sets-requires c =
     let few : c.place_nodes-count.result ≤ 512 = omega (arith, c.place_nodes-count.ensures.value, nodes_few c.args.table.now _ c.args.nodes c.args.points c.args.cuts c.args.new.now c.args.new_owns.now (lending (goal.at.fill_sets-requires c).Start)) in
     let s : 8 * c.place_nodes-count.result ≤ length c.arrange_sets.new.out = omega (arith, few) in
     omega (arith, few, length-take-le (8 * c.place_nodes-count.result) c.arrange_sets.new.out s)
@@ -86,6 +86,6 @@ pub returns-clause-value : goal.returns-clause-value
 returns-clause-value c = count_is c.args.table.now _ c.args.nodes c.args.points c.args.cuts c.args.new.now c.args.new_owns.now (lending (goal.at.returns-clause-value c).Start) c.place_nodes-count.new.held c.place_nodes-count.result c.place_nodes-count.ensures.held_after c.place_nodes-count.ensures.value
 
 pub returns-clause-earlier_after : goal.returns-clause-earlier_after
-returns-clause-earlier_after c = 
+returns-clause-earlier_after c =
     row_placed c.args.table.now _ c.args.nodes c.args.points c.args.cuts c.args.new.now c.args.new_owns.now (lending (goal.at.returns-clause-earlier_after c).Start) c.place_nodes-count.new.held c.place_nodes-count.result c.place_nodes-count.ensures.held_after c.place_nodes-count.ensures.value
     c.arrange_sets.new.out c.arrange_sets.ensures c.place_owns.new.owns c.fill_sets.new.sets c.place_owns.ensures c.fill_sets.ensures

@@ -18,7 +18,7 @@ same c =
     sym
     (c.is_due.ensures
     ∙ due_same c.requires.circles g.r g.earlier.now g.sets.now c.loop-i.i c.wide-start.result c.wide-end.result c.wide-least.result c.loop-i-test.true
-        (place c.requires.circles c.loop-i.i c.wide-start.result c.wide-end.result c.loop-i-test.true c.wide-start.ensures c.wide-end.ensures) c.wide-least.ensures)
+    (place c.requires.circles c.loop-i.i c.wide-start.result c.wide-end.result c.loop-i-test.true c.wide-start.ensures c.wide-end.ensures) c.wide-least.ensures)
 
 pub loop-i-init : goal.loop-i-init
 loop-i-init c =
