@@ -39,10 +39,10 @@ def made(*words):
 
 
 def proved(name):
-    """A proved program, which the check of the proofs builds."""
-    program = ROOT / "target" / "bin" / name
+    """A proved program, which the gate builds, and `rt run`."""
+    program = ROOT / "crates" / name / "out" / name
     if not program.is_file():
-        stop(f"target/bin/{name} isn't built: rt check {name}")
+        stop(f"crates/{name}/out/{name} isn't built: rt run in crates/{name}")
     return program
 
 

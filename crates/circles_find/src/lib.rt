@@ -1,5 +1,6 @@
 // The labels of circles, the least instance of each, over two argument arrays and nothing else.
 #![tactic(auto)]
+
 mod order;
 mod search;
 

@@ -1,5 +1,6 @@
 // The circles of a labelled graph, taken turn by turn.
 #![tactic(auto)]
+
 mod ranks;
 
 pub use ranks::rank_labelled;

@@ -1,5 +1,6 @@
 // The ranks of the circles, over two argument arrays and nothing else.
 #![tactic(auto)]
+
 ghost use Rattle.std.specs.Prelude.{◌+◌, ◌≤◌, length};
 ghost use Rattle.circles.specs.Arrays.{Given, graph_of, Laid};
 

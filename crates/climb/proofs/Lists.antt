@@ -36,6 +36,7 @@ member_in (y ∷ l) x h = ⊎_elim (λ e. Memᴰ.head (eqb-true x y e))
     (λ (e : eqb x y ≡ false). Memᴰ.tail (member_in l x (rw e at h))) (either (eqb x y))
 
 pub member_of : (l : List ℕ) (x : ℕ) → x ∈ l → member l x ≡ true
+member_of [] x m = elim m [ ]
 member_of (y ∷ l) x (Memᴰ.head p) = rw (eq-eqb x y p)
 member_of (y ∷ l) x (Memᴰ.tail m) = rw (member_of l x m) (or-true (eqb x y))
 
@@ -81,6 +82,7 @@ in_up_from (suc n) k x h l = ⊎_elim
 -- ---- some, and all
 
 pub any_none : (f : ℕ → Bool) (l : List ℕ) → any_of f l ≡ false → (x : ℕ) → x ∈ l → f x ≡ false
+any_none f [] h x m = elim m [ ]
 any_none f (y ∷ l) h x (Memᴰ.head p) = rw p (or_false_is {a = f y} h).0
 any_none f (y ∷ l) h x (Memᴰ.tail m) = any_none f l (or_false_is {a = f y} h).1 x m
 
@@ -93,6 +95,7 @@ any_cong f g [] h = refl
 any_cong f g (y ∷ l) h = rw (h y (Memᴰ.head refl), any_cong f g l (λ x m. h x (Memᴰ.tail m)))
 
 pub all_is : (f : ℕ → Bool) (l : List ℕ) → all_of f l ≡ true → (x : ℕ) → x ∈ l → f x ≡ true
+all_is f [] h x m = elim m [ ]
 all_is f (y ∷ l) h x (Memᴰ.head p) = rw p (and_is {a = f y} h).0
 all_is f (y ∷ l) h x (Memᴰ.tail m) = all_is f l (and_is {a = f y} h).1 x m
 

@@ -1,6 +1,7 @@
 // The climb: one round of one circle. The circle is members[start..end]; the slots are 0 to n - 1. Of slot x the arguments are a[x] and b[x],
 // the left node of its equation is left[x] and its rule in the table is rule[x].
 #![tactic(auto)]
+
 ghost use Rattle.std.specs.Prelude.{◌≡◌, ◌&&◌, map, ◌≤◌, eqb, length};
 ghost use Rattle.std.proofs.Math.Seq.{slice};
 ghost use Rattle.std.proofs.lemmas.List.Edits.{sets as row};

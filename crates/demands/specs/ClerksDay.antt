@@ -14,7 +14,7 @@ use Rattle.demands.specs.InTurn.{InTurn, begun, next}
 use Rattle.demands.specs.TwoClerks.{OneThenOther}
 
 -- the evaluations that the corrections of a row took together
-unfoldable pub evaluations_of : {E : Engine} {t : List ℕ} {r r' : Record} {m m' : Memory} {ps : List Part} → InTurn E t r m ps r' m' → ℕ
+unfoldable pub evaluations_of : {E : Engine} {t : List ℕ} {r : Record} {m : Memory} {ps : List Part} {r' : Record} {m' : Memory} → InTurn E t r m ps r' m' → ℕ
 evaluations_of begun = 0
 evaluations_of (next {evaluations = evaluations} before call work) = evaluations + evaluations_of before
 

@@ -1,3 +1,4 @@
+pub mod Arrays
 pub mod Answers
 pub mod Alike
 pub mod Listed

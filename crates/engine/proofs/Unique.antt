@@ -100,7 +100,7 @@ answers_one = record {
   members = λ s. only_equal (members_of s);
   count = λ s. only_equal (count_of s);
   value = λ e own a b. only_equal (value_of e.op own a b);
-  judge_table_lem = λ t. only_verdict (judge_table t);
+  judge_table = λ t. only_verdict (judge_table t);
   judge_tree = λ t ns owns. only_verdict (tree_refusal t ns owns);
   empty = only_equal empty_record;
 }

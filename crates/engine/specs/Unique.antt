@@ -25,7 +25,7 @@ pub record AnswersOne : Type 0 where
   pub members : (s : ℕ) → Only (MembersSay s)
   pub count : (s : ℕ) → Only (CountSays s)
   pub value : (e : Equation) (own a b : ℕ) → Only (ValueSays e own a b)
-  pub judge_table_lem : (t : List ℕ) → Only (JudgeTableSays t)
+  pub judge_table : (t : List ℕ) → Only (JudgeTableSays t)
   pub judge_tree : (t ns owns : List ℕ) → Only (JudgeTreeSays t ns owns)
   pub empty : Only EmptySays
 

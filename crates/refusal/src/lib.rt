@@ -1,5 +1,6 @@
 // The refusals of chapter 14 (docs/RULES.md), one name a number, and what a checker answers.
 #![tactic(auto)]
+
 ghost use Rattle.refusal.specs.Numbers.{NumberSays};
 
 #[derive(Clone, Copy)]

@@ -79,7 +79,7 @@ frame_small {s} {place} {type} {n} {f} i =
 zeros : (n : ℕ) → Words (replicate n 0)
 zeros n i = rw (get_d_zeros n i) (lit< tt)
 
-words_to : {s t : List ℕ} {place line at l : ℕ} {x : Expected} → ReadTo s place line t x at l → Words t
+words_to : {s : List ℕ} {place line : ℕ} {t : List ℕ} {x : Expected} {at l : ℕ} → ReadTo s place line t x at l → Words t
 words_to begin = zeros 2657
 words_to (next {t} {x} {f = f} c i none) =
     let b = frame_small i in words_stored t x (word_of f) (constant_of f) (words_to c) (word_small f b) (constant_small f b)

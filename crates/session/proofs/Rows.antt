@@ -69,6 +69,7 @@ points_behind (suc n) s place line h =
 
 words_in : (qs : List Point) (ns owns : List ℕ) → Words owns → WordsIn (cut_row qs ns owns)
 unfolding cut_row
+words_in [] ns owns w p i = elim i [ ]
 words_in (q ∷ qs) ns owns w p (Memᴰ.head e) = subst (λ (k : Part). Words k.owns) (sym e) (words_take q.count owns w)
 words_in (q ∷ qs) ns owns w p (Memᴰ.tail i) = words_in qs (drop q.count ns) (drop q.count owns) (words_drop q.count owns w) p i
 
@@ -91,6 +92,7 @@ row_behind {s} {place} {line} {place'} {line'} (one {new = new} {new_owns} point
   where
     only : {p : Part} → Words p.owns → WordsIn (p ∷ [])
     only w q (Memᴰ.head e) = subst (λ (k : Part). Words k.owns) (sym e) w
+    only w q (Memᴰ.tail i) = elim i [ ]
 row_behind {s} {place} {line} {place'} {line'} (several {count = count} {place₁} {line₁} {qs = qs} {new} {new_owns} e f g) =
     let y : 0 < type_of (frame_at s place line).frame = rw e (omega arith) in
     let w = nodes_forth (announced qs) s place₁ line₁ new new_owns place' line' g in (

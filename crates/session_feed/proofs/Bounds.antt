@@ -84,7 +84,7 @@ module _ (t ps os : List ℕ) (m : Memory) (r : Record) where
       (λ (o : is_open_kind r.«open» ≡ true). rw (dump_busy t m r line k o) (omega (arith, refusal_length 10 line)))
       (λ (o : is_open_kind r.«open» ≡ false).
       ⊎_elim
-      (λ (h : r.held ≡ true). rw (sym (dump_sets t m r line k o h)) (omega (arith, told_most t (take r.nodes m.productions) m.sets (8 * r.nodes) 0, k.ground.within.nodes)))
+      (λ (h : r.held ≡ true). rw (sym (dump_sets t m r line k o h)) (omega (arith, told_most t (take r.nodes m.productions) m.sets (8 * r.nodes) 0, k.footing.within.nodes)))
       (λ (h : r.held ≡ false). rw (dump_absent t m r line k o h) (omega (arith, refusal_length 16 line)))
       (either r.held))
       (either (is_open_kind r.«open»))

@@ -32,7 +32,7 @@ told_refused n line printed place out out' text e f g = rw e (omega (arith, refu
 -- ---- 10, then 16, then the sets
 module _ (t : List ℕ) (m : Memory) (r : Record) (line : ℕ) (k : Holding t m r) where
   number : refusal_by (look_order t m r) ≡ refusal_by (busy_check r ∷ held_order t m.productions m.owns r)
-  number = past (ground_order t m r) (busy_check r ∷ held_order t m.productions m.owns r) (ground_none t m r k.ground)
+  number = past (ground_order t m r) (busy_check r ∷ held_order t m.productions m.owns r) (ground_none t m r k.footing)
 
   pub dump_busy : is_open_kind r.«open» ≡ true → (dump_told line t r m).text ≡ refusal_text 10 line
   unfolding dump_told refusal_by

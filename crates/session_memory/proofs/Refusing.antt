@@ -124,8 +124,8 @@ module _ (t os : List ℕ) (m : Memory) (r : Record) where
   kept_sound : (refusal_by (kept_order t m r) ≡ 0) ↔ Holding t m r
   kept_sound =
       let g = (order_gives (kept_order t m r) kept_right).none in (
-        λ e. let s = g.0 e in record { ground = record { table = s.1.0; room = (short_means m).0 s.0; within = (beyond_means r).0 s.1.1.0 }; tree = s.1.1.1 },
-        λ k. g.1 ((short_means m).1 k.ground.room, (k.ground.table, ((beyond_means r).1 k.ground.within, k.tree))),
+        λ e. let s = g.0 e in record { footing = record { table = s.1.0; room = (short_means m).0 s.0; within = (beyond_means r).0 s.1.1.0 }; tree = s.1.1.1 },
+        λ k. g.1 ((short_means m).1 k.footing.room, (k.footing.table, ((beyond_means r).1 k.footing.within, k.tree))),
       )
 
   awaited_sound : (awaited : Awaited) → (refusal_by (awaited_order awaited t os m r) ≡ 0) ↔ Sound awaited t os m r

@@ -37,7 +37,7 @@ use Rattle.session_owed.specs.declared.Coming.TheVariants.{Load, Replace, Severa
 pub empty_holds : (t : List ℕ) (m : Memory) → judge_table t ≡ 0 → Roomy m → Holding t m empty_record
 unfolding empty_record shut
 empty_holds t m j room = record {
-  ground = record { table = j; room = room; within = (beyond_means empty_record).0 ((all_shut false 0).within (omega arith)) };
+  footing = record { table = j; room = room; within = (beyond_means empty_record).0 ((all_shut false 0).within (omega arith)) };
   tree = λ h. absurd (true≢false (sym h));
 }
 
@@ -85,7 +85,7 @@ module _ (t : List ℕ) (m : Memory) (r : Record) where
       let j : judge_tree t ns owns 0 ≡ 0 = c.1.1.1.1.1.0 in
       let e : length owns ≡ length ns = tree_equal t ns owns 0 j in
       record {
-        ground = record {
+        footing = record {
           table = c.1.0;
           room = still_roomy (load_lengths ns owns h) room;
           within = (beyond_means (opened open_by.Load (length ns) (load_point (length ns) ∷ []))).0 (rw h at ((all_open_within t m r).load ns owns h));
@@ -144,7 +144,7 @@ module _ (t : List ℕ) (m : Memory) (r : Record) where
         let room = (short_means m).0 c.0 in
         let x = exchanged_sound in
         record {
-          ground = record {
+          footing = record {
             table = c.1.0;
             room = still_roomy points_lengths room;
             within = (beyond_means (opened open_by.Replacement (nodes_left t m r ps) (points_row t ns ps))).0 (rw h at ((all_open_within t m r).points ps h));

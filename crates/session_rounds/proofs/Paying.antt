@@ -55,38 +55,38 @@ module _ (t : List ℕ) (m : Memory) (r : Record) (g : Going t m r) where
   few_circles =
       let ns = nodes_of m r.nodes in
       let owns = owns_of m r.nodes in
-      let long : length (nodes_of m r.nodes) ≡ r.nodes = length-take-le r.nodes m.productions (omega (arith, g.ground.room.productions, g.ground.within.nodes)) in
+      let long : length (nodes_of m r.nodes) ≡ r.nodes = length-take-le r.nodes m.productions (omega (arith, g.footing.room.productions, g.footing.within.nodes)) in
       let sound = tree_sound t ns owns 0 g.tree in
-      let few : length (nodes_of m r.nodes) ≤ 512 = omega (arith, g.ground.within.nodes) in
-      let o = ordered (graph_of (system t ns owns)) (record { bound = declared_below t ns; closed = λ x d y h. args_closed t ns g.ground.table sound x d y (rw (args_declared t ns owns x d) at h) }) (omega arith) in
-      le_trans o.count (few_instances t ns g.ground.table sound few)
+      let few : length (nodes_of m r.nodes) ≤ 512 = omega (arith, g.footing.within.nodes) in
+      let o = ordered (graph_of (system t ns owns)) (record { bound = declared_below t ns; closed = λ x d y h. args_closed t ns g.footing.table sound x d y (rw (args_declared t ns owns x d) at h) }) (omega arith) in
+      le_trans o.count (few_instances t ns g.footing.table sound few)
 
   keeps : Keeps r m.sets made
   keeps = step_keeps (system_of t m r) (circles_of t m r) r m.earlier m.sets
 
   ground_next : Grounded t (with_sets m made.sets) made.next
   ground_next = record {
-    table = g.ground.table;
+    table = g.footing.table;
     room = record {
-      productions = g.ground.room.productions;
-      owns = g.ground.room.owns;
-      sets = omega (arith, g.ground.room.sets, keeps.size);
-      earlier = g.ground.room.earlier;
+      productions = g.footing.room.productions;
+      owns = g.footing.room.owns;
+      sets = omega (arith, g.footing.room.sets, keeps.size);
+      earlier = g.footing.room.earlier;
     };
-    within = (beyond_means made.next).0 (step_within_lem (system_of t m r) (circles_of t m r) m.earlier r m.sets few_circles ((beyond_means r).1 g.ground.within));
+    within = (beyond_means made.next).0 (step_within_lem (system_of t m r) (circles_of t m r) m.earlier r m.sets few_circles ((beyond_means r).1 g.footing.within));
   }
 
   tree_next : held_refusal t (with_sets m made.sets) made.next ≡ 0
   tree_next = rw keeps.nodes g.tree
 
   going_next : is_done made.outcome ≡ false → Going t (with_sets m made.sets) made.next
-  going_next e = record { ground = ground_next; held = keeps.held ∙ g.held; tree = tree_next; busy = ap is_open_kind (keeps.busy e) ∙ g.busy }
+  going_next e = record { footing = ground_next; held = keeps.held ∙ g.held; tree = tree_next; busy = ap is_open_kind (keeps.busy e) ∙ g.busy }
 
   holding_next : Holding t (with_sets m made.sets) made.next
-  holding_next = record { ground = ground_next; tree = λ h. tree_next }
+  holding_next = record { footing = ground_next; tree = λ h. tree_next }
 
 going_holds : {t : List ℕ} {m : Memory} {r : Record} → Going t m r → Holding t m r
-going_holds g = record { ground = g.ground; tree = λ h. g.tree }
+going_holds g = record { footing = g.footing; tree = λ h. g.tree }
 
 -- ---- texts behind each other
 

@@ -5,7 +5,7 @@ use mathlib.Core.List.{List}
 use Prim.Native.Nat.{ℕ, suc, ◌<◌}
 use native.Mathlib.Omega.{arith}
 use lib.ListN.{length, take, drop}
-use Rattle.io.specs.Counts.{IsPrefixLen}
+use Rattle.session_serve.specs.Serving.{IsPrefixLen}
 use Rattle.refusal.specs.Numbers.{number_of, verdict_of}
 use Rattle.refusal.specs.declared.Refusal.{Refusal}
 use Rattle.refusal.specs.declared.Verdict.TheVariants.{Sound, Refused}

@@ -20,6 +20,10 @@ pub data Goes (fed : Fed) : Progress → Type 0 where
   on : fed.verdict ≡ Sound → Goes fed (going_on fed.state fed.place fed.more)
   over : (s : State) → Goes fed (stopped s)
 
+-- the first n bytes of a buffer: it has as many, and they are n
+abbrev pub IsPrefixLen : ℕ → List ℕ → Type 0
+IsPrefixLen n xs = (n ≤ length xs) × (n ≡ length (take n xs))
+
 -- 20.7: one call: what it leaves is what `feed` says
 pub record Served (d : Suspended) (piece : List ℕ) (from : ℕ) (out : List ℕ) (d' : State → Suspended) (out' : List ℕ) (r : Progress) : Type 0 where
   pub fed : Fed

@@ -1,14 +1,15 @@
-// A session from one file descriptor to another: a thin loop over `feed`, in fixed memory. A failed read ends the input; a failed write ends the session.
+// A session from a reader to a writer: a thin loop over `feed`, in fixed memory. A failed read ends the input; a failed write ends the session.
 #![tactic(auto)]
+
 ghost use Rattle.std.specs.Prelude.{◌≡◌, true};
-ghost use Rattle.io.specs.Counts.{IsPrefixLen};
 ghost use Rattle.session_memory.specs.Suspended.{suspended};
 ghost use Rattle.session_feed.specs.Laws.{Starts};
-ghost use Rattle.session_serve.specs.Serving.{going_on, stopped, Goes, Served, PieceServed, NextServed};
+ghost use Rattle.session_serve.specs.Serving.{going_on, stopped, Goes, IsPrefixLen, Served, PieceServed, NextServed};
 ghost use Rattle.update.specs.Memories.{lent};
 
 use refusal::Verdict;
 use session_feed::{Fed, State, feed, finish, start};
+use std::io::{Read, Write};
 use text_frame::Written;
 
 // Behind a call: the state, how far the piece was taken, whether more of it is to be done, and whether the session goes on.
@@ -45,15 +46,15 @@ fn stop(state: State) -> Progress
 }
 
 // Prints the first bytes of a buffer, and says whether that could be done.
-fn print(output: i32, out: &[u8], printed: usize) -> bool {
+fn print<W: Write>(output: &mut W, out: &[u8], printed: usize) -> bool {
     if printed <= out.len() {
-        return io::write_all(output, &out[..printed]);
+        return output.write_all(&out[..printed]).is_ok();
     }
     false
 }
 
 // The end of the input.
-fn print_end(output: i32, state: State, out: &mut [u8]) {
+fn print_end<W: Write>(output: &mut W, state: State, out: &mut [u8]) {
     match finish(state, out) {
         Written::Length(n) => {
             print(output, &*out, n);
@@ -63,7 +64,7 @@ fn print_end(output: i32, state: State, out: &mut [u8]) {
 }
 
 // What a call of `feed` has answered, printed.
-fn print_fed(output: i32, fed: Fed, out: &[u8]) -> Progress
+fn print_fed<W: Write>(output: &mut W, fed: Fed, out: &[u8]) -> Progress
     ensures { Goes fed result }
 {
     let next = fed.state;
@@ -85,8 +86,8 @@ fn print_fed(output: i32, fed: Fed, out: &[u8]) -> Progress
 }
 
 // One call of `feed`, and what it prints.
-fn take_some(
-    output: i32,
+fn take_some<W: Write>(
+    output: &mut W,
     state: State,
     words: &mut [u64],
     window: &mut [u8],
@@ -109,8 +110,8 @@ fn take_some(
 }
 
 // One piece. What is owed for the rest of it falls with each turn.
-fn take_piece(
-    output: i32,
+fn take_piece<W: Write>(
+    output: &mut W,
     state: State,
     words: &mut [u64],
     window: &mut [u8],
@@ -138,17 +139,19 @@ fn take_piece(
 }
 
 // The bytes that have come, at the start of the buffer; none at the end of the input.
-fn read_piece(input: i32, buffer: &mut [u8]) -> usize
+fn read_piece<R: Read>(input: &mut R, buffer: &mut [u8]) -> usize
     ensures { IsPrefixLen result buffer.new }
 {
-    let got = libc::read(input, buffer);
-    io::count(got, &*buffer)
+    match input.read(buffer) {
+        Ok(n) => n,
+        Err(_) => 0,
+    }
 }
 
 // The next piece as it comes, or the end of the input.
-fn take_next(
-    input: i32,
-    output: i32,
+fn take_next<R: Read, W: Write>(
+    input: &mut R,
+    output: &mut W,
     state: State,
     words: &mut [u64],
     window: &mut [u8],
@@ -185,9 +188,9 @@ fn take_next(
 }
 
 // Pieces as they come, until there are none, from a session's start on. A proved loop has to end: it counts its turns down, from a number that no input uses up.
-fn take_pieces(
-    input: i32,
-    output: i32,
+fn take_pieces<R: Read, W: Write>(
+    input: &mut R,
+    output: &mut W,
     state: State,
     words: &mut [u64],
     window: &mut [u8],
@@ -215,7 +218,7 @@ fn take_pieces(
 }
 
 // The whole session.
-pub fn serve(input: i32, output: i32) {
+pub fn serve<R: Read, W: Write>(input: &mut R, output: &mut W) {
     let mut words = [0u64; 2657];
     let mut window = [0u8; 29];
     let mut parts = [0u8; 513];
@@ -224,7 +227,7 @@ pub fn serve(input: i32, output: i32) {
     let mut held_owns = [0u64; 512];
     let mut sets = [0u64; 4096];
     let mut earlier = [0u64; 4096];
-    let mut buffer = io::large_buffer();
+    let mut buffer = [0u8; 65_536];
     let mut out = [0u8; 131_072];
     take_pieces(
         input,

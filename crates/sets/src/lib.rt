@@ -1,6 +1,7 @@
 // Sets of hold reasons, and the equations over them: a set is a word with one bit for each reason code, 0 the empty one.
 // Codes 56 to 63 are notes: members like the others, but operation 7 does not count them.
 #![tactic(auto)]
+
 ghost use Rattle.sets.specs.Members.{MembersSay, CountSays};
 ghost use Rattle.sets.specs.Operations.{ValueSays};
 
@@ -60,6 +61,7 @@ pub fn count(a: u64) -> u64
 }
 
 // The value of an equation where the left node's own set is `own` and its arguments are `a` and `b`.
+#[tactic(auto, unfolding(crate::specs::Operations::value_of))]
 pub fn value(equation: Equation, own: u64, a: u64, b: u64) -> u64
     ensures { ValueSays equation own a b result }
 {

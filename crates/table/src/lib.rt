@@ -1,5 +1,6 @@
 // Rule tables: what their words say.
 #![tactic(auto)]
+
 mod equations;
 mod words;
 

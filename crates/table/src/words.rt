@@ -80,6 +80,7 @@ pub fn child_count(table: &[u64; 2657], p: usize) -> usize
     number(table[PRODUCTIONS + p] / COUNT % 256)
 }
 
+#[tactic(auto, unfolding(crate::specs::Words::child_of))]
 pub fn child_of(table: &[u64; 2657], p: usize, k: usize) -> usize
     requires { (p < 64) × (k < 4) }
     ensures { result ≡ child_of table.now p k }
@@ -116,6 +117,7 @@ pub fn has_set(table: &[u64; 2657], s: usize, i: usize) -> bool
 }
 
 // Whether a production has a set with an index at a position.
+#[tactic(auto, unfolding(crate::specs::Words::occurs))]
 pub fn occurs_at(table: &[u64; 2657], p: usize, q: usize, i: usize) -> bool
     requires p_bound { p < 64 }
     requires shaped { Shaped table.now p }

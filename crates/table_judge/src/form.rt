@@ -32,6 +32,7 @@ pub fn uses_b(op: u64) -> bool
     op == 9
 }
 
+#[tactic(auto, unfolding(table::specs::Equations::uses_c))]
 pub fn uses_c(op: u64) -> bool
     ensures { result ≡ uses_c op }
 {
@@ -56,6 +57,7 @@ fn is_stray(used: bool, field: u64) -> bool
 }
 
 // 4: no operation of that number, something in a field that it doesn't use, or an operation 7 with a c above 56.
+#[tactic(auto, unfolding(table::specs::Equations::misformed, table::specs::Equations::op_number, table::specs::Equations::a_field, table::specs::Equations::b_field))]
 pub fn is_misformed(head: u64, c: u64) -> bool
     ensures { result ≡ misformed head c }
 {

@@ -101,6 +101,7 @@ fn is_foreign(table: &[u64; 2657], p: usize) -> bool
 }
 
 // A production's frame.
+#[tactic(auto, unfolding(table::specs::Judge::refusal_at))]
 pub fn judge_production(table: &[u64; 2657], p: usize) -> Verdict
     requires { p < 64 }
     ensures { verdict_of result ≡ refusal_at table.now (production p) }
@@ -115,6 +116,7 @@ pub fn judge_production(table: &[u64; 2657], p: usize) -> Verdict
 }
 
 // 5: an argument that is used and names no declared occurrence.
+#[tactic(auto, unfolding(table::specs::Judge::misnamed))]
 fn is_misnamed(table: &[u64; 2657], p: usize, used: bool, x: u64) -> bool
     requires p_bound { p < 64 }
     requires shaped { Shaped table.now p }
@@ -129,6 +131,7 @@ fn is_misnamed(table: &[u64; 2657], p: usize, used: bool, x: u64) -> bool
 }
 
 // An equation's frame.
+#[tactic(auto, unfolding(table::specs::Judge::refusal_at, table::specs::Words::rule_of, table::specs::Equations::op_number, table::specs::Equations::a_field, table::specs::Equations::b_field))]
 pub fn judge_equation(table: &[u64; 2657], p: usize, q: usize, k: usize) -> Verdict
     requires p_bound { p < 64 }
     requires shaped { Shaped table.now p }

@@ -1,5 +1,6 @@
 // The checker of a rule table: whether its words are sound, and by which number they are refused.
 #![tactic(auto)]
+
 mod form;
 mod judge;
 

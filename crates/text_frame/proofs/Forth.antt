@@ -8,7 +8,7 @@ use borrow.Author.Tests.{eqb-true}
 use lib.Dec.{eqb, ltb}
 use lib.ListN.{length, take, drop}
 use Rattle.text_line.specs.Hex.{num_at}
-use Rattle.text_line.specs.Text.{two, width_of, line_at, line_text}
+use Rattle.text_line.specs.Text.{width_of, line_at, line_text}
 use Rattle.text_line.specs.declared.Line.{Line}
 use Rattle.text_line.specs.declared.Line.TheVariants.{Digits, Bad, End}
 use Rattle.text_line.proofs.Fields.{Stand, line_forth, line_length}

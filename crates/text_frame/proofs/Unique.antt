@@ -16,7 +16,7 @@ reader_one text place line =
 
 pub frames_one : FramesOne
 frames_one = record {
-  frame_at_lem = λ s place line. only_equal (frame_at s place line);
+  frame_at = λ s place line. only_equal (frame_at s place line);
   next_at = λ s place line. only_equal (frame_at s place line);
   reader_at = reader_one;
   next = λ r. only_equal (frame_at r.text.now r.place r.line);

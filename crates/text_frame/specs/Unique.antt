@@ -8,7 +8,7 @@ use Rattle.text_frame.specs.declared.Reader.{Reader}
 
 -- 23.9: the statement of each call leaves nothing open
 pub record FramesOne : Type 0 where
-  pub frame_at_lem : (s : List ℕ) (place line : ℕ) → Only (λ (a : Step). FrameAtSays s place line a)
+  pub frame_at : (s : List ℕ) (place line : ℕ) → Only (λ (a : Step). FrameAtSays s place line a)
   pub next_at : (s : List ℕ) (place line : ℕ) → Only (λ (a : Step). FrameAtSays s place line a)
   pub reader_at : (text : Bor (List ℕ)) (place line : ℕ) → Only (λ (a : Reader). ReaderAtSays text place line a)
   pub next : (r : Reader) → Only (λ (a : Step). NextSays r a)

@@ -207,6 +207,7 @@ fn correction_frame(text: &[u8], place: usize, n: usize, line: u32) -> Frame
 }
 
 // The frame that n digits make.
+#[tactic(auto, unfolding(crate::specs::Frames::frame_of, crate::specs::Frames::kind_of))]
 fn frame_of(text: &[u8], place: usize, n: usize, line: u32) -> Frame
     requires { place + 28 < 2 ^ 64 }
     ensures { result ≡ frame_of text.now place n line }
@@ -235,6 +236,7 @@ pub fn line_after(line: u32) -> u32
 }
 
 // The frame at a place, and where the next one is. Refusal 13 comes before 14: only a line is looked into.
+#[tactic(auto, unfolding(crate::specs::Frames::frame_at))]
 pub fn frame_at(text: &[u8], place: usize, line: u32) -> Step
     ensures { FrameAtSays text.now place line result }
 {

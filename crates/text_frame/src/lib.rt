@@ -1,5 +1,6 @@
 // Frames of text: one a line; which frame of a table comes next, and what a session prints.
 #![tactic(auto)]
+
 mod kinds;
 mod out;
 mod walk;

@@ -36,6 +36,7 @@ fn seek(table: &[u64; 2657], p: usize, q: usize) -> Expected
 }
 
 // Behind equation k of a position.
+#[tactic(auto, unfolding(crate::specs::Walk::next_of))]
 fn after_equation(table: &[u64; 2657], p: usize, q: usize, k: usize) -> Expected
     requires { (p < 64) × (Shaped table.now p × ((q ≤ child_count table.now p) × (k < 4))) }
     ensures { result ≡ next_of table.now (AtEquation p q k) }
@@ -58,6 +59,7 @@ fn after_symbol(table: &[u64; 2657], s: usize) -> Expected
 }
 
 // What comes behind a frame.
+#[tactic(auto, unfolding(crate::specs::Walk::next_of))]
 pub fn next_of(table: &[u64; 2657], expected: Expected) -> Expected
     requires { Ready table.now expected }
     ensures { result ≡ next_of table.now expected }

@@ -1,5 +1,6 @@
 // The dump: the sets of the held tree, written as text.
 #![tactic(auto)]
+
 ghost use Rattle.std.specs.Prelude.{◌≡◌, ◌+◌, ◌*◌, ◌<◌, ◌≤◌, length, take};
 ghost use Rattle.std.proofs.lemmas.List.Edits.{sets as setsAt};
 ghost use Rattle.text_sets.specs.Telling.{told_from, slot_text, Tellable};

@@ -12,7 +12,7 @@ use Rattle.sets.specs.declared.Argument.{Argument}
 use Rattle.table.specs.First.{row}
 use Rattle.table.specs.Words.{symbol_count, production_count, synthesized, inherited, left_of, child_of, child_count, symbol_at, defined, rule_of, head_at, constant_at}
 use Rattle.table.specs.Equations.{op_number, a_field, b_field, argument}
-use Rattle.table.specs.Judge.{Frame, symbol, production, equation, part_of, frames, judge_table}
+use Rattle.table.specs.Judge.{Frame, symbol, equation, part_of, frames, judge_table}
 use Rattle.table.specs.Same.{Has, Same}
 use Rattle.table.proofs.Sound.{sound}
 use Rattle.table.proofs.Same.{defined_same}

@@ -11,7 +11,7 @@ use lib.ListN.{get_or, set}
 use lib.Seq.{get_or-set_other}
 use Rattle.text_line.proofs.Values.{lt_or_ge}
 use Rattle.table.specs.Words.{symbol_count, production_count, synthesized, inherited, left_of, child_of, child_count, symbol_at, defined, rule_of, head_at, constant_at}
-use Rattle.table.specs.Judge.{Frame, header, symbol, production, equation, outside, refusal_at, judge_table}
+use Rattle.table.specs.Judge.{header, symbol, production, equation, outside, refusal_at, judge_table}
 use Rattle.table.specs.Shape.{Symbols, Shaped}
 use Rattle.table.proofs.FirstLaws.{or_false}
 use Rattle.table.proofs.Holds.{holds, outside_false, symbols_of_lem, shaped_of}

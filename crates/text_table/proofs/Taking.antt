@@ -1,12 +1,10 @@
 -- One frame taken: what the words become, and what is answered. Assumes nothing.
 use mathlib.Core.Path.{◌≡◌, refl, ap, sym, ◌∙◌}
 use mathlib.Core.Bool.{true, false}
-use mathlib.Core.List.{List, [], ◌∷◌}
+use mathlib.Core.List.{List}
 use mathlib.Core.Logic.{◌⊎◌, inl, inr, ⊎_elim}
 use Prim.Native.Nat.{ℕ, zero, suc, ◌+◌, ◌*◌, ◌≤◌, ◌<◌}
 use native.Mathlib.Omega.{arith}
-use types.Run.{OneOf, miss}
-use denote.Enum.Declared.{tag_of}
 use borrow.Author.Tests.{ne_eqb}
 use lib.Dec.{eqb, lit<, lit≤}
 use lib.ListN.{get_or, set}
@@ -34,18 +32,31 @@ use Rattle.text_table.specs.declared.Taken.TheVariants.{Next, Stopped}
 use Rattle.refusal.proofs.Distinct.{number_low}
 use Rattle.text_tree.proofs.Numbers.{by_number}
 use Rattle.text_frame.proofs.Exactly.{rule_type_lem, change_type_lem}
-use Rattle.text_frame.specs.contracts.Frame as F
-use Rattle.text_frame.specs.contracts.Rule as R
 
--- a rule of another type, by its tag
-rule_tag : (r : rule.Rule) → rule_type r ≡ suc (tag_of R.the_type r)
-rule_tag (Header a b) = refl
-rule_tag (Symbol a b) = refl
-rule_tag (Production a b c) = refl
-rule_tag (Equation a b c d) = refl
+-- a rule of another type
+pub no_header : (r : rule.Rule) → ((a b : ℕ) → r ≡ Header a b → ⊥) → eqb (rule_type r) 1 ≡ false
+no_header (Header a b) h = absurd (h a b refl)
+no_header (Symbol a b) h = refl
+no_header (Production a b c) h = refl
+no_header (Equation a b c d) h = refl
 
-pub other_rule : (r : rule.Rule) (ns : List ℕ) (n : ℕ) → (OneOf ns n → ⊥) → OneOf ns (tag_of R.the_type r) → eqb (rule_type r) (suc n) ≡ false
-other_rule r ns n h k = ne_eqb (rule_type r) (suc n) (λ e. let d : tag_of R.the_type r ≡ n = omega (arith, rule_tag r) in h (rw d at k))
+pub no_symbol : (r : rule.Rule) → ((a b : ℕ) → r ≡ Symbol a b → ⊥) → eqb (rule_type r) 2 ≡ false
+no_symbol (Header a b) h = refl
+no_symbol (Symbol a b) h = absurd (h a b refl)
+no_symbol (Production a b c) h = refl
+no_symbol (Equation a b c d) h = refl
+
+pub no_production : (r : rule.Rule) → ((a b : ℕ) (c : Children) → r ≡ Production a b c → ⊥) → eqb (rule_type r) 3 ≡ false
+no_production (Header a b) h = refl
+no_production (Symbol a b) h = refl
+no_production (Production a b c) h = absurd (h a b c refl)
+no_production (Equation a b c d) h = refl
+
+pub no_equation : (r : rule.Rule) → ((op : ℕ) (a b : Argument) (c : ℕ) → r ≡ Equation op a b c → ⊥) → eqb (rule_type r) 4 ≡ false
+no_equation (Header a b) h = refl
+no_equation (Symbol a b) h = refl
+no_equation (Production a b c) h = refl
+no_equation (Equation a b c d) h = absurd (h a b c d refl)
 
 -- a type that none of a table's frames has
 abbrev pub NoRule : ℕ → Type 0
@@ -58,8 +69,8 @@ no_type (AtProduction p) n d = ne_eqb n 3 (λ e. ⊎_elim (λ h. omega arith) (�
 no_type (AtEquation p q k) n d = ne_eqb n 4 (λ e. ⊎_elim (λ h. omega arith) (λ h. omega (arith, h.0)) d)
 no_type Ended n d = ne_eqb n 256 (λ e. ⊎_elim (λ h. omega arith) (λ h. omega (arith, h.1)) d)
 
-pub no_rule : (f : Frame) → OneOf (1 ∷ 2 ∷ 3 ∷ 4 ∷ 5 ∷ 6 ∷ []) (tag_of F.the_type f) → NoRule (type_of f)
-no_rule (Rule a) k = absurd (miss (1 ∷ 2 ∷ 3 ∷ 4 ∷ 5 ∷ 6 ∷ []) 0 tt k)
+pub no_rule : (f : Frame) → ((r : rule.Rule) → f ≡ Rule r → ⊥) → NoRule (type_of f)
+no_rule (Rule a) k = absurd (k a refl)
 no_rule (Node a b) k = inr (lit< tt, lit< tt)
 no_rule (Point a b) k = inr (lit< tt, lit< tt)
 no_rule (Change c) k = inr (omega (arith, (change_type_lem c).0), (change_type_lem c).1)
@@ -67,13 +78,13 @@ no_rule Dump k = inr (lit< tt, lit< tt)
 no_rule (Refused a b) k = inl (lit≤ tt)
 no_rule Over k = inl (lit≤ tt)
 
-pub not_refused : (f : Frame) (line : ℕ) → OneOf (0 ∷ 1 ∷ 2 ∷ 3 ∷ 4 ∷ 6 ∷ []) (tag_of F.the_type f) → Stopped why.Frame line ≡ strange_at f line
+pub not_refused : (f : Frame) (line : ℕ) → ((r : Refusal) (l : ℕ) → f ≡ Refused r l → ⊥) → Stopped why.Frame line ≡ strange_at f line
 not_refused (Rule a) line k = refl
 not_refused (Node a b) line k = refl
 not_refused (Point a b) line k = refl
 not_refused (Change a) line k = refl
 not_refused Dump line k = refl
-not_refused (Refused a b) line k = absurd (miss (0 ∷ 1 ∷ 2 ∷ 3 ∷ 4 ∷ 6 ∷ []) 5 tt k)
+not_refused (Refused a b) line k = absurd (k a b refl)
 not_refused Over line k = refl
 
 pub never_ended : (f : Frame) → eqb (type_of f) 256 ≡ false

@@ -1,5 +1,6 @@
 // Tables to and from text.
 #![tactic(auto)]
+
 mod read;
 mod whole;
 mod write;

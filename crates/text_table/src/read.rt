@@ -24,6 +24,7 @@ fn join(x: u64, a: u8, b: u8) -> u64
 }
 
 // A frame that is not the expected one: its own refusal is passed on, else 14.
+#[tactic(auto, using(crate::proofs::Taking::not_refused))]
 fn strange(frame: Frame, line: u32) -> Taken
     ensures { result ≡ strange_at frame line }
 {

@@ -25,6 +25,7 @@ const EQUATION_LINE: usize = 29;
 const EQUATION: u64 = 4_398_046_511_104;
 
 // A production's word without the bytes of children that it has not.
+#[tactic(auto, unfolding(crate::specs::Inner::Putting::reached_of))]
 fn reached(word: u64, count: usize) -> u64
     ensures { result ≡ reached_of word count }
 {

@@ -1,11 +1,9 @@
 -- A tree's lines, one by one. Assumes nothing.
 use mathlib.Core.Path.{◌≡◌, refl, ap, sym, ◌∙◌}
-use mathlib.Core.List.{List, [], ◌∷◌}
+use mathlib.Core.List.{List, []}
 use Prim.Native.Nat.{ℕ, suc, ◌+◌, ◌-◌, ◌≤◌, ◌<◌}
 use native.Mathlib.Omega.{arith}
 use native.Mathlib.Numerals.{add-one}
-use types.Run.{OneOf, miss}
-use denote.Enum.Declared.{tag_of}
 use lib.ListN.{length, set, length-set}
 use lib.Seq.{sets}
 use Rattle.refusal.specs.declared.Refusal.{Refusal}
@@ -20,41 +18,39 @@ use Rattle.text_frame.specs.declared.Change.TheVariants.{Load, Replace, Correcti
 use Rattle.text_frame.specs.declared.Step.{Step}
 use Rattle.text_tree.specs.declared.ReadTree.{ReadTree}
 use Rattle.text_tree.specs.declared.ReadTree.TheVariants.{Read, Refused as ReadRefused}
-use Rattle.text_frame.specs.contracts.Frame as F
-use Rattle.text_frame.specs.contracts.Change as C
 use Rattle.text_tree.proofs.Trees.{nodes_forth}
 
--- ---- frames of another type, by their tags
+-- ---- frames of another type
 
-pub no_refusal : (f : Frame) (line : ℕ) → OneOf (0 ∷ 1 ∷ 2 ∷ 3 ∷ 4 ∷ 6 ∷ []) (tag_of F.the_type f) → ReadRefused why.Frame line ≡ tree_answer (stray f line)
+pub no_refusal : (f : Frame) (line : ℕ) → ((r : Refusal) (l : ℕ) → f ≡ Refused r l → ⊥) → ReadRefused why.Frame line ≡ tree_answer (stray f line)
 no_refusal (Rule a) line k = refl
 no_refusal (Node a b) line k = refl
 no_refusal (Point a b) line k = refl
 no_refusal (Change a) line k = refl
 no_refusal Dump line k = refl
-no_refusal (Refused a b) line k = absurd (miss (0 ∷ 1 ∷ 2 ∷ 3 ∷ 4 ∷ 6 ∷ []) 5 tt k)
+no_refusal (Refused a b) line k = absurd (k a b refl)
 no_refusal Over line k = refl
 
-no_node : (f : Frame) (line : ℕ) (rest : Nodes) → OneOf (0 ∷ 2 ∷ 3 ∷ 4 ∷ 5 ∷ 6 ∷ []) (tag_of F.the_type f) → node_then f line rest ≡ stray f line
+no_node : (f : Frame) (line : ℕ) (rest : Nodes) → ((p o : ℕ) → f ≡ Node p o → ⊥) → node_then f line rest ≡ stray f line
 no_node (Rule a) line rest k = refl
-no_node (Node a b) line rest k = absurd (miss (0 ∷ 2 ∷ 3 ∷ 4 ∷ 5 ∷ 6 ∷ []) 1 tt k)
+no_node (Node a b) line rest k = absurd (k a b refl)
 no_node (Point a b) line rest k = refl
 no_node (Change a) line rest k = refl
 no_node Dump line rest k = refl
 no_node (Refused a b) line rest k = refl
 no_node Over line rest k = refl
 
-pub no_change : (f : Frame) (line : ℕ) (rest : ℕ → Nodes) → OneOf (0 ∷ 1 ∷ 2 ∷ 4 ∷ 5 ∷ 6 ∷ []) (tag_of F.the_type f) → load_then f line rest ≡ stray f line
+pub no_change : (f : Frame) (line : ℕ) (rest : ℕ → Nodes) → ((c : change.Change) → f ≡ Change c → ⊥) → load_then f line rest ≡ stray f line
 no_change (Rule a) line rest k = refl
 no_change (Node a b) line rest k = refl
 no_change (Point a b) line rest k = refl
-no_change (Change a) line rest k = absurd (miss (0 ∷ 1 ∷ 2 ∷ 4 ∷ 5 ∷ 6 ∷ []) 3 tt k)
+no_change (Change a) line rest k = absurd (k a refl)
 no_change Dump line rest k = refl
 no_change (Refused a b) line rest k = refl
 no_change Over line rest k = refl
 
-pub no_load : (c : change.Change) (line : ℕ) (rest : ℕ → Nodes) → OneOf (1 ∷ 2 ∷ []) (tag_of C.the_type c) → load_then (Change c) line rest ≡ stray (Change c) line
-no_load (Load a) line rest k = absurd (miss (1 ∷ 2 ∷ []) 0 tt k)
+pub no_load : (c : change.Change) (line : ℕ) (rest : ℕ → Nodes) → ((n : ℕ) → c ≡ Load n → ⊥) → load_then (Change c) line rest ≡ stray (Change c) line
+no_load (Load a) line rest k = absurd (k a refl)
 no_load (Replace a b) line rest k = refl
 no_load (Corrections a) line rest k = refl
 
@@ -158,7 +154,7 @@ module _ (s : List ℕ) (count place line : ℕ) (a₀ b₀ : List ℕ) where
           ap (λ (m : ℕ). nodes_at m s at l) z ∙ ap (λ (x : Step). node_then x.frame l (nodes_at (count - (i + 1)) s x.place x.line)) (sym found)
 
       -- a line that is no node's
-      pub onward_stop : OneOf (0 ∷ 2 ∷ 3 ∷ 4 ∷ 5 ∷ 6 ∷ []) (tag_of F.the_type r.frame) → (x : ReadTree) → x ≡ tree_answer (stray r.frame l)
+      pub onward_stop : ((p o : ℕ) → r.frame ≡ Node p o → ⊥) → (x : ReadTree) → x ≡ tree_answer (stray r.frame l)
           → (x ≡ tree_answer all) × Stored all a₀ b₀ a b
       onward_stop q x e =
           let w = strayed r.frame l in

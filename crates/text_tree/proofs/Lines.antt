@@ -116,7 +116,7 @@ module _ (s : List ℕ) where
   bad_from : {place line at l : ℕ} {ps os : List ℕ} (r : Refusal) (m n : ℕ) → NodeLines s place line ps os at l → length ps < n → ((k : ℕ) → nodes_at (suc k) s at l ≡ bad r m) → bad r m ≡ nodes_at n s place line
   bad_from r m zero l h f = absurd (omega arith)
   bad_from r m (suc n) none h f = sym (f n)
-  bad_from r m (suc n) (node {place} {line} {p} {o} w l) h f = ap (node_before p o) (bad_from r m n l (omega arith) f) ∙ sym (step_node n place line p o w)
+  bad_from r m (suc n) (node {place} {line} {p} {o} w l) h f = ap (node_before p o) (bad_from {place = place + 21} {line = line_after line} r m n l (omega arith) f) ∙ sym (step_node n place line p o w)
 
   nodes_from : {n place line : ℕ} {x : Nodes} → NodesRead s n place line x → x ≡ nodes_at n s place line
   nodes_from {n} {place} {line} (all l e) = rw (← e) (all_from l)

@@ -16,6 +16,7 @@ use text_frame::{Change, Frame, next_at};
 use tree::{NODES, judge_held};
 
 // A frame where another is expected: its own refusal is passed on, else 14.
+#[tactic(auto, using(crate::proofs::Growing::no_refusal))]
 fn no_node(frame: Frame, line: u32) -> ReadTree
     ensures { result ≡ tree_answer (stray frame line) }
 {

@@ -1,5 +1,6 @@
 // Trees to and from text.
 #![tactic(auto)]
+
 mod grow;
 mod plant;
 

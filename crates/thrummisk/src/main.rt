@@ -1,5 +1,6 @@
 // The session program: standard input to standard output.
 #![tactic(auto)]
-fn main() {
-    session_serve::serve(0, 1);
+
+fn main(rt: HostRuntime) {
+    session_serve::serve(&mut rt.stdin(), &mut rt.stdout());
 }

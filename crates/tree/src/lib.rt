@@ -1,5 +1,6 @@
 // Trees in preorder: the judgement 6 and 7, and where each subtree ends.
 #![tactic(auto)]
+
 ghost use Rattle.std.specs.Prelude.{◌≡◌, [], ◌∷◌, suc, ◌+◌, ◌-◌, ◌<◌, ◌≤◌, length, take};
 ghost use Rattle.refusal.specs.Numbers.{verdict_of};
 ghost use Rattle.table.specs.Words.{production_count, child_count, children_from};

@@ -38,6 +38,7 @@ some_found f (q ∷ qs) h = ⊎_elim (λ p. record { q = q; among = Memᴰ.head 
     (λ p. let s = some_found f qs p in record { q = s.q; among = Memᴰ.tail s.among; holds = s.holds }) (or_parts (f q) (some_point f qs) h)
 
 found_some : (f : Point → Bool) (qs : List Point) (q : Point) → Among q qs → f q ≡ true → some_point f qs ≡ true
+found_some f [] q m h = elim m [ ]
 found_some f (p ∷ qs) q (Memᴰ.head e) h = let i : f p ≡ true = rw e at h in rw i
 found_some f (p ∷ qs) q (Memᴰ.tail m) h = rw (found_some f qs q m h) (or-true (f p))
 
@@ -66,6 +67,7 @@ sown_exactly r x = (sown_to r x, sown_from r x)
 -- ---- changed
 
 every_at : (f : Point → Bool) (qs : List Point) → every_point f qs ≡ true → (q : Point) → Among q qs → f q ≡ true
+every_at f [] h q m = elim m [ ]
 every_at f (p ∷ qs) h q (Memᴰ.head e) = rw e (and_is h).0
 every_at f (p ∷ qs) h q (Memᴰ.tail m) = every_at f qs (and_is {a = f p} h).1 q m
 

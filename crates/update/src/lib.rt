@@ -1,5 +1,6 @@
 // The update record that the caller lends, and what the engine's calls answer.
 #![tactic(auto)]
+
 ghost use Rattle.std.specs.Prelude.{◌≡◌};
 ghost use Rattle.update.specs.Records.{EmptySays, is_open_kind};
 

@@ -59,7 +59,7 @@ module _ (t : List ℕ) (m : Memory) (r : Record) where
   -- ---- a look at the held tree
 
   pub record Looked : Type 0 where
-    pub ground : Grounded t m r
+    pub footing : Grounded t m r
     pub closed : is_open_kind r.«open» ≡ false
     pub held : r.held ≡ true
     pub tree : held_refusal t m r ≡ 0
@@ -67,11 +67,11 @@ module _ (t : List ℕ) (m : Memory) (r : Record) where
   pub looked : refusal_by (look_order t m r) ≡ 0 → Looked
   looked h =
       let w = (order_gives (look_order t m r) (look_right t m r)).none.0 h in
-      record { ground = grounded (front (ground_order t m r) (busy_check r ∷ held_order t m.productions m.owns r) h); closed = w.1.1.1.0; held = w.1.1.1.1.0; tree = w.1.1.1.1.1 }
+      record { footing = grounded (front (ground_order t m r) (busy_check r ∷ held_order t m.productions m.owns r) h); closed = w.1.1.1.0; held = w.1.1.1.1.0; tree = w.1.1.1.1.1 }
 
   pub look_none : Looked → refusal_by (look_order t m r) ≡ 0
   look_none k = (order_gives (look_order t m r) (look_right t m r)).none.1
-      ((short_means m).1 k.ground.room, (k.ground.table, ((beyond_means r).1 k.ground.within, (k.closed, (k.held, k.tree)))))
+      ((short_means m).1 k.footing.room, (k.footing.table, ((beyond_means r).1 k.footing.within, (k.closed, (k.held, k.tree)))))
 
   module _ (x : ℕ) where
     pub read_past : Looked → read_refusal t m r x ≡ when (not (declared t (nodes_of m r.nodes) x)) 12
@@ -98,12 +98,12 @@ module _ (t : List ℕ) (m : Memory) (r : Record) where
   unfolding step_refusal
   going h =
       let w = (order_gives (step_order t m r) (step_right t m r)).none.0 h in
-      record { ground = grounded (front (ground_order t m r) (going_order t m.productions m.owns r) h); held = w.1.1.1.0; tree = w.1.1.1.1.0; busy = w.1.1.1.1.1 }
+      record { footing = grounded (front (ground_order t m r) (going_order t m.productions m.owns r) h); held = w.1.1.1.0; tree = w.1.1.1.1.0; busy = w.1.1.1.1.1 }
 
   pub step_none : Going t m r → step_refusal t m r ≡ 0
   unfolding step_refusal
   step_none k = (order_gives (step_order t m r) (step_right t m r)).none.1
-      ((short_means m).1 k.ground.room, (k.ground.table, ((beyond_means r).1 k.ground.within, (k.held, (k.tree, k.busy)))))
+      ((short_means m).1 k.footing.room, (k.footing.table, ((beyond_means r).1 k.footing.within, (k.held, (k.tree, k.busy)))))
 
   -- ---- a replacement at several points, of parts ps in any shape that has the points and counts of others
 
@@ -119,7 +119,7 @@ module _ (t : List ℕ) (m : Memory) (r : Record) where
     points_past : Holding t m r → points_refusal t m r ps ≡ refusal_by (named_order r ps ++ behind_order)
     unfolding points_refusal nodes_left refusal_by
     points_past k =
-        past (ground_order t m r) (asked_order r ps ++ (held_order t m.productions m.owns r ++ (point_check r.nodes ps ∷ behind_order))) (ground_none k.ground)
+        past (ground_order t m r) (asked_order r ps ++ (held_order t m.productions m.owns r ++ (point_check r.nodes ps ∷ behind_order))) (ground_none k.footing)
         ∙ ⊎_elim (λ (h : r.held ≡ true). rw (k.tree h)) (λ (h : r.held ≡ false). rw h) (either r.held)
 
     pub named_stopped : Holding t m r → (q : Refusal) → number_of q ≡ refusal_by (named_order r ps) → number_of q ≡ points_refusal t m r ps
@@ -130,7 +130,7 @@ module _ (t : List ℕ) (m : Memory) (r : Record) where
 
     -- what is known behind those
     pub record AimedAt : Type 0 where
-      pub ground : Grounded t m r
+      pub footing : Grounded t m r
       pub closed : is_open_kind r.«open» ≡ false
       pub counted : miscounted ps ≡ false
       pub held : r.held ≡ true
@@ -141,7 +141,7 @@ module _ (t : List ℕ) (m : Memory) (r : Record) where
         let w = (order_gives (aim_order t m r ps) (aim_right t m r ps)).none.0 h in
         let v = w.1.1.1 in
         record {
-          ground = grounded (front (ground_order t m r) (asked_order r ps ++ held_order t m.productions m.owns r) h);
+          footing = grounded (front (ground_order t m r) (asked_order r ps ++ held_order t m.productions m.owns r) h);
           closed = v.0;
           counted = (counted_means ps).1 v.1.0;
           held = v.1.1.0;

@@ -29,7 +29,7 @@ pub record Grounded (t : List ℕ) (m : Memory) (r : Record) : Type 0 where
 
 -- and a tree that is held is sound
 pub record Holding (t : List ℕ) (m : Memory) (r : Record) : Type 0 where
-  pub ground : Grounded t m r
+  pub footing : Grounded t m r
   pub tree : r.held ≡ true → held_refusal t m r ≡ 0
 
 -- the points of parts are nodes of a tree that is held, and no update is open
@@ -41,7 +41,7 @@ pub record Named (r : Record) (ps : List Part) : Type 0 where
 
 -- what a step and a run are refused by none of
 pub record Going (t : List ℕ) (m : Memory) (r : Record) : Type 0 where
-  pub ground : Grounded t m r
+  pub footing : Grounded t m r
   pub held : r.held ≡ true
   pub tree : held_refusal t m r ≡ 0
   pub busy : is_open_kind r.«open» ≡ true

@@ -1,5 +1,6 @@
 // What the engine's calls are refused by, judged in the order of chapter 15 (docs/RULES.md), and what they look at in the held tree.
 #![tactic(auto)]
+
 mod limits;
 mod points;
 mod refuse;

@@ -1,5 +1,6 @@
 // Load and replacement: what opens an update.
 #![tactic(auto)]
+
 ghost use Rattle.std.specs.Prelude.{◌≡◌, [], ◌∷◌};
 ghost use Rattle.tree.specs.Handed.{named_points, bare_row};
 ghost use Rattle.update.specs.Refusals.{held_refusal};

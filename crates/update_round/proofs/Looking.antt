@@ -50,8 +50,12 @@ given_in n a b = by (ltb a n) (ltb b n) (λ h. ltb-true a n h) (λ h. ltb-true b
     by : (s t : Bool) → (s ≡ true → a < n) → (t ≡ true → b < n) → (y : ℕ) → y ∈ cond s (a ∷ cond t (b ∷ []) []) (cond t (b ∷ []) []) → y < n
     by true true p q y (Memᴰ.head e) = rw e (p refl)
     by true true p q y (Memᴰ.tail (Memᴰ.head e)) = rw e (q refl)
+    by true true p q y (Memᴰ.tail (Memᴰ.tail m)) = elim m [ ]
     by true false p q y (Memᴰ.head e) = rw e (p refl)
+    by true false p q y (Memᴰ.tail m) = elim m [ ]
     by false true p q y (Memᴰ.head e) = rw e (q refl)
+    by false true p q y (Memᴰ.tail m) = elim m [ ]
+    by false false p q y m = elim m [ ]
 
 -- ---- due, member by member
 

@@ -2,6 +2,7 @@
 // n - 1; of slot x the arguments are a[x] and b[x], the left node of its equation is left[x], its rule in the table is rule[x] and the least instance of its circle is
 // label[x]. The members of circle i are members[ends[i]..ends[i + 1]].
 #![tactic(auto)]
+
 mod changes;
 mod due;
 mod numbers;

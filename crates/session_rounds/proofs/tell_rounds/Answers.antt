@@ -15,16 +15,16 @@ use Rattle.session_rounds.proofs.tell_rounds.Goals as goal
 
 module _ {t held held_owns sets earlier : List ℕ} {r : Record} (s : Going t (lent held held_owns sets earlier) r) where
   tree_long : length (take r.nodes held) ≡ r.nodes
-  tree_long = length-take-le r.nodes held (omega (arith, s.ground.room.productions, s.ground.within.nodes))
+  tree_long = length-take-le r.nodes held (omega (arith, s.footing.room.productions, s.footing.within.nodes))
 
   owns_long : length (take r.nodes held_owns) ≡ r.nodes
-  owns_long = length-take-le r.nodes held_owns (omega (arith, s.ground.room.owns, s.ground.within.nodes))
+  owns_long = length-take-le r.nodes held_owns (omega (arith, s.footing.room.owns, s.footing.within.nodes))
 
   sound : Held t (take r.nodes held)
   sound = record {
-    judged = s.ground.table;
+    judged = s.footing.table;
     sound = tree_sound t (take r.nodes held) (take r.nodes held_owns) 0 s.tree;
-    few = omega (arith, tree_long, s.ground.within.nodes);
+    few = omega (arith, tree_long, s.footing.within.nodes);
   }
 
   owned : length (take r.nodes held) ≤ length (take r.nodes held_owns)

@@ -2,7 +2,7 @@
 use Rattle.table.specs.Judge.{refusal_at}
 use Rattle.table.specs.Words.{synthesized, inherited}
 use borrow.Author.Tests.{lt-ltb, le-ltb, eq-eqb, ne_eqb}
-use Prim.Native.Nat.{◌-◌, ◌≤◌, ◌<◌}
+use Prim.Native.Nat.{◌≤◌, ◌<◌}
 use native.Mathlib.Omega.{arith}
 use borrow.Author.Rules.{rules}
 use Rattle.table_judge.proofs.judge.judge_symbol.Statement.{statement}

@@ -4,7 +4,7 @@ use mathlib.Core.Path.{◌≡◌, ap, ◌∙◌}
 use mathlib.Core.List.{[], ◌∷◌}
 use Prim.Native.Nat.{ℕ, ◌+◌}
 use lib.Seq.{sets}
-use Rattle.text_line.specs.Text.{field, lineText}
+use Rattle.text_line.specs.Text.{field, line_text}
 use Rattle.text_frame.proofs.Printed.{set_line}
 use borrow.Author.Rules.{rules}
 use Rattle.text_frame.proofs.out.put_set.Statement.{statement}
@@ -18,7 +18,7 @@ returns c =
     let a = d.args in
     let v : 1245184 + w.wide-head.result ≡ 1245184 + a.instance = λ i. 1245184 + w.wide-head.ensures i in (
       omega (arith, z.put_line.ensures.0),
-      z.put_line.ensures.1 ∙ ap (λ (x : ℕ). sets a.buffer.now a.place (lineText (field 6 x ∷ field 16 a.value ∷ []))) v ∙ ap (sets a.buffer.now a.place) (set_line a.instance a.value (omega arith)),
+      z.put_line.ensures.1 ∙ ap (λ (x : ℕ). sets a.buffer.now a.place (line_text (field 6 x ∷ field 16 a.value ∷ []))) v ∙ ap (sets a.buffer.now a.place) (set_line a.instance a.value (omega arith)),
     )
 
 pub put_set_spec : {M : Type 1} → statement M

@@ -1,0 +1,8 @@
+-- One link more. Assumes nothing.
+use Rattle.std.proofs.Common.{◌-◌, arith}
+use Rattle.circles_find.proofs.Rolls.{members_more}
+use Rattle.circles_find.proofs.search.chain_members.Goals as goal
+
+pub loop-k-preserved : goal.loop-k-preserved
+loop-k-preserved c =
+    (members_more c.args.n c.args.rep.now c.requires.2 (c.loop-k.k - 1) c.wide-x.result (omega arith) c.loop-k.invariant.1 c.loop-k.invariant.0 c.wide-x.ensures c.link.new.first c.link.new.next c.link.ensures, omega (arith, c.loop-k.invariant.1))

@@ -1,0 +1,10 @@
+-- All members passed are free. Assumes nothing.
+use Rattle.std.proofs.Common.{◌-◌}
+use Rattle.circles_order.proofs.Cursors.{Going}
+use Rattle.circles_order.proofs.ranks.advance.Given as goal
+
+abbrev pub invariant-loop-e : goal.invariant-loop-e
+invariant-loop-e l = Going l.n l.a l.b l.label l.taken l.after l.l l.x l.e
+
+abbrev pub decreases-loop-e : goal.decreases-loop-e
+decreases-loop-e l = l.n - l.e

@@ -1,0 +1,61 @@
+-- Another type stops; the expected one is stored and judged. Assumes nothing.
+use native.Mathlib.Omega.{arith}
+use mathlib.Core.Path.{◌≡◌, ap, sym, ◌∙◌}
+use mathlib.Core.Bool.{true}
+use mathlib.Core.List.{List}
+use Prim.Native.Nat.{ℕ, ◌+◌, ◌*◌}
+use lib.Dec.{eqb}
+use lib.ListN.{set}
+use Rattle.text_frame.specs.Text.{type_of}
+use Rattle.text_table.specs.Read.{type_at, words_after}
+use Rattle.text_frame.specs.declared.Frame.TheVariants.{Rule}
+use Rattle.text_frame.specs.declared.Rule.TheVariants.{Equation}
+use Rattle.text_frame.specs.declared.Expected.TheVariants.{AtEquation}
+use Rattle.text_table.specs.declared.Taken.TheVariants.{Next}
+use Rattle.text_table.proofs.Taking.{no_equation, other_taken, other_words, sound_taken, stopped_taken, equation_words, low_kept, shaped_kept, count_kept}
+use Rattle.text_table.proofs.read.take_equation.Goals as goal
+
+pub returns-in_default : goal.returns-in_default
+returns-in_default c =
+    let a = c.args in
+    let e = no_equation a.rule c.in_default.not-Equation in
+    (c.misplaced.ensures ∙ other_taken a.table.now (AtEquation a.p a.q a.k) (Rule a.rule) a.line e, other_words a.table.now (AtEquation a.p a.q a.k) (Rule a.rule) a.line e)
+
+pub judge_equation-requires-clause-shaped : goal.judge_equation-requires-clause-shaped
+judge_equation-requires-clause-shaped c =
+    let a = c.args in
+    let s = c.requires.1 in
+    let m = 2 * (20 * a.p + (4 * a.q + a.k)) in
+    let k = low_kept a.table.now m c.join-2.result c.in-Equation.c in
+    let u = set (set a.table.now (97 + m) c.join-2.result) (98 + m) c.in-Equation.c in
+    shaped_kept a.table.now u a.p s.0 k s.1.0
+
+pub next_of-requires : goal.next_of-requires
+next_of-requires c =
+    let a = c.args in
+    let s = c.requires.1 in
+    let m = 2 * (20 * a.p + (4 * a.q + a.k)) in
+    let k = low_kept a.table.now m c.join-2.result c.in-Equation.c in
+    let u = set (set a.table.now (97 + m) c.join-2.result) (98 + m) c.in-Equation.c in
+    let n = count_kept a.table.now u a.p s.0 k in
+    (s.0, (shaped_kept a.table.now u a.p s.0 k s.1.0, (omega (arith, s.1.1), s.1.1.1)))
+
+pub returns-in-Sound : goal.returns-in-Sound
+returns-in-Sound c =
+    let a = c.args in
+    let g = c.in-Equation in
+    let e : a.rule ≡ Equation g.op g.a g.b g.c = g.is in
+    let u : List ℕ = set (set a.table.now (97 + (2 * (20 * a.p + (4 * a.q + a.k)))) c.join-2.result) (98 + (2 * (20 * a.p + (4 * a.q + a.k)))) g.c in
+    let d : u ≡ words_after a.table.now (AtEquation a.p a.q a.k) (Rule a.rule) = rw e (equation_words a.table.now a.p a.q a.k g.op g.a g.b g.c c.wide.result c.join.result c.join-2.result c.wide.ensures.0 c.join.ensures c.join-2.ensures) in
+    let y : eqb (type_of (Rule a.rule)) (type_at (AtEquation a.p a.q a.k)) ≡ true = rw e in
+    (ap Next c.next_of.ensures ∙ sound_taken a.table.now (AtEquation a.p a.q a.k) (Rule a.rule) a.line u y d (sym c.in-Sound.ensures), d)
+
+pub returns-in-Refused : goal.returns-in-Refused
+returns-in-Refused c =
+    let a = c.args in
+    let g = c.in-Equation in
+    let e : a.rule ≡ Equation g.op g.a g.b g.c = g.is in
+    let u : List ℕ = set (set a.table.now (97 + (2 * (20 * a.p + (4 * a.q + a.k)))) c.join-2.result) (98 + (2 * (20 * a.p + (4 * a.q + a.k)))) g.c in
+    let d : u ≡ words_after a.table.now (AtEquation a.p a.q a.k) (Rule a.rule) = rw e (equation_words a.table.now a.p a.q a.k g.op g.a g.b g.c c.wide.result c.join.result c.join-2.result c.wide.ensures.0 c.join.ensures c.join-2.ensures) in
+    let y : eqb (type_of (Rule a.rule)) (type_at (AtEquation a.p a.q a.k)) ≡ true = rw e in
+    (stopped_taken a.table.now (AtEquation a.p a.q a.k) (Rule a.rule) a.line u c.in-Refused.r y d c.in-Refused.ensures, d)

@@ -1,0 +1,30 @@
+-- What each of the two walks says follows from what the walks that it calls say. Assumes nothing.
+use Rattle.std.proofs.Common.{◌∷◌, arith, ap}
+use Rattle.table.specs.Words.{left_of}
+use Rattle.tree.proofs.Nodes.{judge_short, judge_number, judge_wrong}
+use Rattle.tree.proofs.Walks.{row_ends, row_stops, row_goes, subtree_goes}
+use Rattle.tree.proofs.+row_subtree.Goals as goal
+
+pub row-returns-then-child_count-child : goal.row-returns-then-child_count-child
+row-returns-then-child_count-child t c = row_ends c.args.table.now c.args.productions.now c.args.at c.args.production c.args.child c.requires.at_in_bounds (omega arith)
+
+pub row-returns-in-Behind : goal.row-returns-in-Behind
+row-returns-in-Behind t c =
+    row_goes c.args.table.now c.args.productions.now c.args.at c.args.production c.args.child c.child_of-symbol.result c.in-Behind.next c.child_of-symbol.ensures (omega arith) c.in-Behind.ensures c.row.result c.row.ensures
+
+pub row-returns-in-Wrong : goal.row-returns-in-Wrong
+row-returns-in-Wrong t c = row_stops c.args.table.now c.args.productions.now c.args.at c.args.production c.args.child c.child_of-symbol.result c.child_of-symbol.ensures (omega arith) c.in-Wrong.ensures
+
+pub subtree-returns-then-productions-at : goal.subtree-returns-then-productions-at
+subtree-returns-then-productions-at t c = λ ss. judge_short c.args.table.now c.args.productions.now c.args.at c.args.symbol ss (omega arith)
+
+pub subtree-returns-then-production_count-p : goal.subtree-returns-then-production_count-p
+subtree-returns-then-production_count-p t c = λ ss. judge_number c.args.table.now c.args.productions.now c.args.at (omega arith) (c.args.symbol ∷ ss) (omega arith)
+
+pub subtree-returns-then-left_of-symbol : goal.subtree-returns-then-left_of-symbol
+subtree-returns-then-left_of-symbol t c =
+    λ ss. judge_wrong c.args.table.now c.args.productions.now c.args.at (omega arith) c.args.symbol ss (omega arith) (λ e. omega (arith, ap (left_of c.args.table.now) c.index-p.ensures.0))
+
+pub subtree-returns : goal.subtree-returns
+subtree-returns t c =
+    subtree_goes c.args.table.now c.args.productions.now c.args.at c.args.symbol c.index-p.result (omega arith) c.index-p.ensures.0 (omega arith) (omega arith) c.row.result c.row.ensures

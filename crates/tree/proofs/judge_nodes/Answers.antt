@@ -1,0 +1,13 @@
+-- The walk over one subtree, and then what is left behind it. Assumes nothing.
+use Rattle.std.proofs.Common.{[], arith, sym, ◌∙◌}
+use Rattle.tree.proofs.Nodes.{judge_done, judge_number, judge_over}
+use Rattle.tree.proofs.judge_nodes.Goals as goal
+
+pub returns-then-productions-next : goal.returns-then-productions-next
+returns-then-productions-next c = sym (c.in-Behind.ensures.rest [] ∙ judge_done c.args.table.now c.args.productions.now c.in-Behind.next (omega arith))
+
+pub returns-then-production_count-over : goal.returns-then-production_count-over
+returns-then-production_count-over c = sym (c.in-Behind.ensures.rest [] ∙ judge_number c.args.table.now c.args.productions.now c.in-Behind.next (omega arith) [] (omega arith))
+
+pub returns-else-production_count-over : goal.returns-else-production_count-over
+returns-else-production_count-over c = sym (c.in-Behind.ensures.rest [] ∙ judge_over c.args.table.now c.args.productions.now c.in-Behind.next (omega arith) (omega arith))

@@ -1,0 +1,16 @@
+-- 10, 22, 16, 9, and then the exchange at those points. Assumes nothing.
+use Rattle.std.proofs.Common.{sym}
+use Rattle.tree.specs.Handed.{named_points, bare_row}
+use Rattle.update.specs.Memories.{lent}
+use Rattle.update_judge.proofs.Orders.{named}
+use Rattle.update_open.proofs.Answers.{named_refused}
+use Rattle.update_open.proofs.replace_points_judged.Goals as goal
+
+pub exchange_row-requires-clause-record_value : goal.exchange_row-requires-clause-record_value
+exchange_row-requires-clause-record_value c = c.requires.tree (named c.args.table.now (lent c.args.held.now c.args.held_owns.now c.args.sets.now c.args.earlier.now) c.args.«record» (bare_row (named_points c.args.points)) (sym c.in-Sound.ensures)).held
+
+pub exchange_row-requires-clause-named : goal.exchange_row-requires-clause-named
+exchange_row-requires-clause-named c = (named c.args.table.now (lent c.args.held.now c.args.held_owns.now c.args.sets.now c.args.earlier.now) c.args.«record» (bare_row (named_points c.args.points)) (sym c.in-Sound.ensures))
+
+pub returns-in-Refused : goal.returns-in-Refused
+returns-in-Refused c = named_refused c.args.table.now (lent c.args.held.now c.args.held_owns.now c.args.sets.now c.args.earlier.now) c.args.«record» c.args.points c.args.new.now c.args.new_owns.now c.requires c.in-Refused.r c.in-Refused.ensures

@@ -1,0 +1,11 @@
+-- Spliced into a fresh array, whose front is written back. Assumes nothing.
+use mathlib.Core.Path.{ap, sym, ◌∙◌}
+use Rattle.update.specs.Memories.{filled}
+use Rattle.update_place.proofs.Placed.{take_filled}
+use lib.ListN.{take}
+use Rattle.update_place.proofs.placing.place_nodes.Goals as goal
+
+pub returns-clause-held_after : goal.returns-clause-held_after
+returns-clause-held_after c =
+    let s = c.splice_nodes-count in
+    c.fill_nodes.ensures ∙ ap (λ l. filled l c.args.held.now) (ap (take s.result) s.ensures.out_after ∙ take_filled _ _ s.result (sym s.ensures.value))
