@@ -1,10 +1,6 @@
 -- What was owed at first is what has been printed and what is owed now, and the turns that follow make the call. Assumes nothing.
-use mathlib.Core.Path.{◌≡◌}
-use Prim.Native.Nat.{◌+◌, ◌≤◌}
-use lib.ListN.{length}
 use native.Mathlib.Omega.{arith}
 use borrow.Author.Tests.{not-true, not-false}
-use Rattle.session_owed.specs.Hearing.{Spacious}
 use Rattle.session_feed.proofs.Faring.{since_first, since_on, since_last, since_full, fares_none, fares_on, sized_none, sized_on, fed_all, fed_full}
 use Rattle.session_memory.proofs.Deciding.{tested_not}
 use Rattle.session_feed.proofs.feeding.feed_sound.Goals as goal

@@ -1,5 +1,5 @@
 -- The bytes that are gathered wait, or make a line that is heard. Assumes nothing.
-use Rattle.session_feed.proofs.Faring.{sound_here, reaches, line_waits, line_heard}
+use Rattle.session_feed.proofs.Faring.{sound_here, line_waits, line_heard}
 use borrow.Author.Tests.{not-true, not-false}
 use Rattle.update.specs.Memories.{lent}
 use Rattle.session_feed.proofs.feeding.listen.Goals as goal

@@ -2,7 +2,7 @@
 use mathlib.Core.Path.{◌∙◌}
 use native.Mathlib.Omega.{arith}
 use Rattle.update.specs.Memories.{lent}
-use Rattle.session_line.proofs.Cases.{no_node, more_nodes, last_node, kept_room}
+use Rattle.session_line.proofs.Cases.{no_node, more_nodes, last_node}
 use Rattle.session_line.proofs.Heard.{as_well, silent, kept_as, called_as}
 use Rattle.session_line.proofs.hearing.hear_node.Goals as goal
 

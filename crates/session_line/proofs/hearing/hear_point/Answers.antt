@@ -2,7 +2,7 @@
 use mathlib.Core.Path.{refl, ◌∙◌}
 use native.Mathlib.Omega.{arith}
 use Rattle.update.specs.Memories.{lent}
-use Rattle.session_line.proofs.Cases.{no_point, more_points, last_point, point_room}
+use Rattle.session_line.proofs.Cases.{no_point, more_points, last_point}
 use Rattle.session_line.proofs.Heard.{as_well, silent, kept_as, ordered_as}
 use Rattle.session_line.proofs.hearing.hear_point.Goals as goal
 
