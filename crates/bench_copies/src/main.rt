@@ -2,96 +2,103 @@
 //
 // The argument says how far it goes: `take` the bytes, `read` the table and the tree, `write` them back. Accepted text comes back as it went in.
 #![tactic(auto)]
-use libc::{STDIN_FILENO, STDOUT_FILENO};
+
+ghost use Rattle.std.specs.Prelude.{◌≤◌, length};
+
+use std::env::Env;
+use std::io;
+use std::io::{Cursor, Read, Stdout};
 use text::{ReadTable, ReadTree, Written, read_table, read_tree, write_table, write_tree};
 
 // How far: 1 to 3, or 0 for a word that it doesn't know.
-fn asked() -> u8 {
+fn asked(rt: &impl Env) -> u8 {
     let mut word = [0u8; 8];
-    let length = os::arg(1, &mut word);
-    if check::same(&word[..length], b"take") {
-        return 1;
+    let Ok(length) = rt.arg(1, &mut word) else {
+        return 0;
+    };
+    match &word[..length] {
+        b"take" => 1,
+        b"read" => 2,
+        b"write" => 3,
+        _ => 0,
     }
-    if check::same(&word[..length], b"read") {
-        return 2;
-    }
-    if check::same(&word[..length], b"write") {
-        return 3;
-    }
-    0
 }
 
-fn tell(count: usize) {
-    io::print_decimal(STDOUT_FILENO, count as u64);
-    io::write_all(STDOUT_FILENO, b"\n");
+// Reads until the buffer is full, the input ends or a read fails, and says how many bytes came; they stand at the buffer's start.
+fn read_full(input: &mut impl Read, buffer: &mut [u8]) -> usize
+    ensures { result ≤ length buffer.new }
+{
+    let room = buffer.len();
+    let mut text = Cursor::new(buffer);
+    let _ = io::copy(input, &mut text);
+    room.min(text.position() as usize)
+}
+
+fn tell(output: Stdout, count: usize) -> io::Result<()> {
+    println!(output; "{count}")
 }
 
 // Prints what was written, or the number that refused it.
-fn print(written: Written, out: &[u8]) {
+fn print(output: Stdout, written: Written, out: &[u8]) -> io::Result<()> {
     match written {
         Written::Length(n) => {
             if n <= out.len() {
-                io::write_all(STDOUT_FILENO, &out[..n]);
+                return output.write_all(&out[..n]);
             }
+            Ok(())
         }
-        Written::Refused(r) => tell(refusal::number(r) as usize),
+        Written::Refused(r) => tell(output, refusal::number(r) as usize),
     }
 }
 
 fn write_back<'a>(
+    output: Stdout,
     table: &'a [u64; 2657],
     nodes: &'a [u8],
     owns: &'a [u64],
     count: usize,
     out: &mut [u8],
-) {
+) -> io::Result<()> {
     if nodes.len() < count {
-        return;
+        return Ok(());
     }
     if owns.len() < count {
-        return;
+        return Ok(());
     }
     let first = write_table(table, out);
-    print(first, &*out);
+    print(output, first, &*out)?;
     let second = write_tree(table, &nodes[..count], &owns[..count], out);
-    print(second, &*out);
+    print(output, second, &*out)
 }
 
-fn copy(text: &[u8], stage: u8) {
+fn copy(output: Stdout, text: &[u8], stage: u8) -> io::Result<()> {
     let mut table = [0u64; 2657];
     let mut nodes = [0u8; 512];
     let mut owns = [0u64; 512];
-    let mut out = io::large_buffer();
+    let mut out = [0u8; 65_536];
     let ReadTable::Read { place, line } = read_table(text, 0, 1, &mut table) else {
-        io::write_all(STDOUT_FILENO, b"there is no table\n");
-        return;
+        return println!(output; "there is no table");
     };
     let ReadTree::Read { count, .. } = read_tree(&table, text, place, line, &mut nodes, &mut owns)
     else {
-        io::write_all(STDOUT_FILENO, b"there is no tree\n");
-        return;
+        return println!(output; "there is no tree");
     };
     if stage < 3 {
-        tell(count);
-        return;
+        return tell(output, count);
     }
-    write_back(&table, &nodes, &owns, count, &mut out);
+    write_back(output, &table, &nodes, &owns, count, &mut out)
 }
 
-fn main() {
-    let stage = asked();
-    let mut text = io::large_buffer();
-    let length = io::read_full(STDIN_FILENO, &mut text);
+fn main(rt: HostRuntime) -> io::Result<()> {
+    let output = rt.stdout();
+    let stage = asked(&rt);
+    let mut text = [0u8; 65_536];
+    let length = read_full(&mut rt.stdin(), &mut text);
     if stage == 0 {
-        io::write_all(
-            STDOUT_FILENO,
-            b"usage: bench_copies take|read|write < TEXT\n",
-        );
-        return;
+        return println!(output; "usage: bench_copies take|read|write < TEXT");
     }
     if stage == 1 {
-        tell(length);
-        return;
+        return tell(output, length);
     }
-    copy(&text[..length], stage);
+    copy(output, &text[..length], stage)
 }

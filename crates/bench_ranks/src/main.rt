@@ -4,6 +4,7 @@
 // slot is not declared; any other number from n on is no argument. Asked to `rank`, it prints how many circles there are and what the lists
 // of members and of ends have in the middle; asked to `read`, how many slots, and zeros.
 #![tactic(auto)]
+
 ghost use Rattle.std.specs.Prelude.{◌+◌, ◌*◌, ◌<◌, ◌≤◌, ◌≡◌, cond, length};
 ghost use Rattle.circles.specs.Arrays.{Given, graph_of};
 ghost use Rattle.circles.specs.Graph.{Closed};
@@ -12,19 +13,31 @@ ghost use Rattle.circles_order.specs.Inner.Turns.{Says};
 ghost use Rattle.bench_ranks.specs.Inner.Slots.{Stands, Sure};
 
 use circles::{NO_SLOT, SLOTS, UNDECLARED};
-use libc::{STDIN_FILENO, STDOUT_FILENO};
+use std::env::Env;
+use std::io;
+use std::io::{Cursor, Read, Stdout};
 
 // What the program is asked: 2 to rank, 1 to read, 0 nothing that it knows.
-fn asked() -> u8 {
+fn asked(rt: &impl Env) -> u8 {
     let mut word = [0u8; 8];
-    let length = os::arg(1, &mut word);
-    if check::same(&word[..length], b"rank") {
-        return 2;
+    let Ok(length) = rt.arg(1, &mut word) else {
+        return 0;
+    };
+    match &word[..length] {
+        b"rank" => 2,
+        b"read" => 1,
+        _ => 0,
     }
-    if check::same(&word[..length], b"read") {
-        return 1;
-    }
-    0
+}
+
+// Reads until the buffer is full, the input ends or a read fails, and says how many bytes came; they stand at the buffer's start.
+fn read_full(input: &mut impl Read, buffer: &mut [u8]) -> usize
+    ensures { result ≤ length buffer.new }
+{
+    let room = buffer.len();
+    let mut text = Cursor::new(buffer);
+    let _ = io::copy(input, &mut text);
+    room.min(text.position() as usize)
 }
 
 fn wide(x: u8) -> u16
@@ -142,52 +155,47 @@ fn counted(n: usize, a: &[u16; 4096], b: &[u16; 4096], rank: bool) -> Found
     }
 }
 
-fn show(n: u64) {
-    io::print_decimal(STDOUT_FILENO, n);
-    io::write_all(STDOUT_FILENO, b"\n");
+fn show(output: Stdout, n: u64) -> io::Result<()> {
+    println!(output; "{n}")
 }
 
-fn tell(n: usize, a: &[u16; 4096], b: &[u16; 4096], rank: bool)
+fn tell(output: Stdout, n: usize, a: &[u16; 4096], b: &[u16; 4096], rank: bool) -> io::Result<()>
     requires { (n ≤ 4096) × (n ≤ length a.now) × (n ≤ length b.now) }
 {
     if !is_closed(n, a, b) {
-        io::write_all(STDOUT_FILENO, b"a declared slot reads one that is not\n");
-        return;
+        return println!(output; "a declared slot reads one that is not");
     }
     let c = counted(n, a, b, rank);
-    show(c.count as u64);
-    show(c.member as u64);
-    show(c.end as u64);
+    show(output, c.count as u64)?;
+    show(output, c.member as u64)?;
+    show(output, c.end as u64)
 }
 
-fn answer(text: &[u8], rank: bool) {
+fn answer(output: Stdout, text: &[u8], rank: bool) -> io::Result<()> {
     if text.len() < 2 {
-        io::write_all(STDOUT_FILENO, b"the text is too short\n");
-        return;
+        return println!(output; "the text is too short");
     }
     let n = number(text, 0) as usize;
     if SLOTS < n {
-        io::write_all(STDOUT_FILENO, b"more than 4096 slots\n");
-        return;
+        return println!(output; "more than 4096 slots");
     }
     if text.len() < 4 * n + 2 {
-        io::write_all(STDOUT_FILENO, b"the text is too short\n");
-        return;
+        return println!(output; "the text is too short");
     }
     let mut a = [UNDECLARED; 4096];
     let mut b = [NO_SLOT; 4096];
     fill(text, n, 2, &mut a);
     fill(text, n, 4, &mut b);
-    tell(n, &a, &b, rank);
+    tell(output, n, &a, &b, rank)
 }
 
-fn main() {
-    let asked = asked();
+fn main(rt: HostRuntime) -> io::Result<()> {
+    let output = rt.stdout();
+    let asked = asked(&rt);
     if asked == 0 {
-        io::write_all(STDOUT_FILENO, b"usage: bench_ranks rank|read < GRAPH\n");
-        return;
+        return println!(output; "usage: bench_ranks rank|read < GRAPH");
     }
     let mut text = [0u8; 16386];
-    let length = io::read_full(STDIN_FILENO, &mut text);
-    answer(&text[..length], asked == 2);
+    let length = read_full(&mut rt.stdin(), &mut text);
+    answer(output, &text[..length], asked == 2)
 }

@@ -3,42 +3,51 @@
 // Standard input has the text of a table and then of a tree. The stages: `judge` the table and the tree, the `spans` of its subtrees, `wire` its instances,
 // `rank` its circles. What is printed: the count of nodes, or of circles once they are ranked, and what each array has in the middle, in hex of one width.
 #![tactic(auto)]
-ghost use Rattle.std.specs.Prelude.{◌<◌};
+
+ghost use Rattle.std.specs.Prelude.{◌<◌, ◌≤◌, length};
 ghost use Rattle.wire.specs.Inner.Turns.{Held};
 
 use circles_rank::rank_circles;
-use libc::{STDIN_FILENO, STDOUT_FILENO};
 use refusal::Verdict;
+use std::env::Env;
+use std::io;
+use std::io::{Cursor, Read, Stdout};
 use text::{ReadTable, ReadTree, read_table, read_tree};
 use tree::{judge_tree, spans};
 use wire::wire_tree;
 
 // The stage that is asked for: 1 to 4, or 0 for none that it knows.
-fn asked() -> u8 {
+fn asked(rt: &impl Env) -> u8 {
     let mut word = [0u8; 8];
-    let length = os::arg(1, &mut word);
-    if check::same(&word[..length], b"judge") {
-        return 1;
+    let Ok(length) = rt.arg(1, &mut word) else {
+        return 0;
+    };
+    match &word[..length] {
+        b"judge" => 1,
+        b"spans" => 2,
+        b"wire" => 3,
+        b"rank" => 4,
+        _ => 0,
     }
-    if check::same(&word[..length], b"spans") {
-        return 2;
-    }
-    if check::same(&word[..length], b"wire") {
-        return 3;
-    }
-    if check::same(&word[..length], b"rank") {
-        return 4;
-    }
-    0
 }
 
-fn show(n: u16) {
-    io::print_hex(STDOUT_FILENO, n as u64, 4);
-    io::write_all(STDOUT_FILENO, b"\n");
+// Reads until the buffer is full, the input ends or a read fails, and says how many bytes came; they stand at the buffer's start.
+fn read_full(input: &mut impl Read, buffer: &mut [u8]) -> usize
+    ensures { result ≤ length buffer.new }
+{
+    let room = buffer.len();
+    let mut text = Cursor::new(buffer);
+    let _ = io::copy(input, &mut text);
+    room.min(text.position() as usize)
+}
+
+fn show(output: Stdout, n: u16) -> io::Result<()> {
+    println!(output; "{n:04x}")
 }
 
 // Shows the count and what each array has for the node and its first slot. All stages look into all arrays, so that they differ by their work alone and all of it is done.
 fn tell(
+    output: Stdout,
     count: usize,
     node: usize,
     places: &[u16; 512],
@@ -49,24 +58,23 @@ fn tell(
     label: &[u16; 4096],
     members: &[u16; 4096],
     ends: &[u16; 4097],
-)
+) -> io::Result<()>
     requires { node < 512 }
 {
     let x = 8 * node;
-    io::print_decimal(STDOUT_FILENO, count as u64);
-    io::write_all(STDOUT_FILENO, b"\n");
-    show(places[node]);
-    show(a[x]);
-    show(b[x]);
-    show(left[x]);
-    show(rule[x]);
-    show(label[x]);
-    show(members[x]);
-    show(ends[x]);
+    println!(output; "{count}")?;
+    show(output, places[node])?;
+    show(output, a[x])?;
+    show(output, b[x])?;
+    show(output, left[x])?;
+    show(output, rule[x])?;
+    show(output, label[x])?;
+    show(output, members[x])?;
+    show(output, ends[x])
 }
 
 // The stages behind the judgement.
-fn work<'a>(table: &'a [u64; 2657], nodes: &'a [u8], stage: u8)
+fn work<'a>(output: Stdout, table: &'a [u64; 2657], nodes: &'a [u8], stage: u8) -> io::Result<()>
     requires { Held table.now nodes.now }
 {
     let mut places = [0u16; 512];
@@ -89,6 +97,7 @@ fn work<'a>(table: &'a [u64; 2657], nodes: &'a [u8], stage: u8)
         }
     }
     tell(
+        output,
         count,
         nodes.len() / 2,
         &places,
@@ -99,20 +108,25 @@ fn work<'a>(table: &'a [u64; 2657], nodes: &'a [u8], stage: u8)
         &label,
         &members,
         &ends,
-    );
+    )
 }
 
-fn judge<'a>(table: &'a [u64; 2657], nodes: &'a [u8], owns: &'a [u64], stage: u8) {
+fn judge<'a>(
+    output: Stdout,
+    table: &'a [u64; 2657],
+    nodes: &'a [u8],
+    owns: &'a [u64],
+    stage: u8,
+) -> io::Result<()> {
     match judge_tree(table, nodes, owns) {
-        Verdict::Sound => work(table, nodes, stage),
-        Verdict::Refused(_) => {
-            io::write_all(STDOUT_FILENO, b"the tree is refused\n");
-        }
+        Verdict::Sound => work(output, table, nodes, stage),
+        Verdict::Refused(_) => println!(output; "the tree is refused"),
     }
 }
 
 // Reads the tree behind the table and goes on with it.
 fn plant(
+    output: Stdout,
     table: &[u64; 2657],
     text: &[u8],
     place: usize,
@@ -120,41 +134,38 @@ fn plant(
     nodes: &mut [u8],
     owns: &mut [u64],
     stage: u8,
-) {
+) -> io::Result<()> {
     let ReadTree::Read { count, .. } = read_tree(table, text, place, line, nodes, owns) else {
-        io::write_all(STDOUT_FILENO, b"there is no tree\n");
-        return;
+        return println!(output; "there is no tree");
     };
     if nodes.len() < count {
-        return;
+        return Ok(());
     }
     if owns.len() < count {
-        return;
+        return Ok(());
     }
-    judge(table, &nodes[..count], &owns[..count], stage);
+    judge(output, table, &nodes[..count], &owns[..count], stage)
 }
 
-fn answer(text: &[u8], stage: u8) {
+fn answer(output: Stdout, text: &[u8], stage: u8) -> io::Result<()> {
     let mut table = [0u64; 2657];
     let mut nodes = [0u8; 512];
     let mut owns = [0u64; 512];
     let ReadTable::Read { place, line } = read_table(text, 0, 1, &mut table) else {
-        io::write_all(STDOUT_FILENO, b"there is no table\n");
-        return;
+        return println!(output; "there is no table");
     };
-    plant(&table, text, place, line, &mut nodes, &mut owns, stage);
+    plant(
+        output, &table, text, place, line, &mut nodes, &mut owns, stage,
+    )
 }
 
-fn main() {
-    let stage = asked();
+fn main(rt: HostRuntime) -> io::Result<()> {
+    let output = rt.stdout();
+    let stage = asked(&rt);
     if stage == 0 {
-        io::write_all(
-            STDOUT_FILENO,
-            b"usage: bench_stages judge|spans|wire|rank < TEXT\n",
-        );
-        return;
+        return println!(output; "usage: bench_stages judge|spans|wire|rank < TEXT");
     }
-    let mut text = io::large_buffer();
-    let length = io::read_full(STDIN_FILENO, &mut text);
-    answer(&text[..length], stage);
+    let mut text = [0u8; 65_536];
+    let length = read_full(&mut rt.stdin(), &mut text);
+    answer(output, &text[..length], stage)
 }

@@ -5,6 +5,7 @@ use crate::reading::{read, read_day};
 use crate::tape::{ALL, Call, Change, Look, Row, Work, call_of};
 use crate::tell::{say, tell_begun, tell_ran, tell_stepped};
 use engine::{Places, Point, Record};
+use std::io::Stdout;
 
 // What lies in lent memory at first.
 const DUST: u64 = 0xa5a5_a5a5_a5a5_a5a5;
@@ -51,6 +52,7 @@ fn places_of(count: usize, first: usize, second: usize) -> Places {
 
 // A replacement at several points, and the record that it leaves.
 fn replace_points(
+    output: Stdout,
     table: &[u64; 2657],
     r: Record,
     row: Row,
@@ -65,11 +67,12 @@ fn replace_points(
     let new = nodes_of(nodes, row.from, row.to);
     let own = owns_of(owns, row.own, ALL);
     let d = engine::replace_points(table, r, points, new, own, held, held_owns, sets, earlier);
-    tell_begun(b"replace_points: ", d)
+    tell_begun(output, b"replace_points: ", d)
 }
 
 // A load or a replacement, and the record that it leaves.
 fn change(
+    output: Stdout,
     table: &[u64; 2657],
     r: Record,
     change: Change,
@@ -85,27 +88,30 @@ fn change(
             let tree = nodes_of(nodes, from, to);
             let own = owns_of(owns, from, upto);
             let d = engine::load(table, r, tree, own, held, held_owns, sets, earlier);
-            tell_begun(b"load: ", d)
+            tell_begun(output, b"load: ", d)
         }
         Change::Short => {
             let mut few = [DUST; 4095];
             let d = engine::load(table, r, nodes, owns, held, held_owns, &mut few, earlier);
-            tell_begun(b"load: ", d)
+            tell_begun(output, b"load: ", d)
         }
         Change::Replace(point, from, to, own) => {
             let part = nodes_of(nodes, from, to);
             let own = owns_of(owns, own, ALL);
             let d = engine::replace(table, r, point, part, own, held, held_owns, sets, earlier);
-            tell_begun(b"replace: ", d)
+            tell_begun(output, b"replace: ", d)
         }
         Change::ReplacePoints(row) => {
-            replace_points(table, r, row, nodes, owns, held, held_owns, sets, earlier)
+            replace_points(
+                output, table, r, row, nodes, owns, held, held_owns, sets, earlier,
+            )
         }
     }
 }
 
 // A step or a run, and the record that it leaves.
 fn work<'a>(
+    output: Stdout,
     table: &'a [u64; 2657],
     r: Record,
     work: Work,
@@ -115,14 +121,17 @@ fn work<'a>(
     earlier: &'a [u64; 4096],
 ) -> Record {
     match work {
-        Work::Step => tell_stepped(engine::step(table, r, held, held_owns, sets, earlier)),
+        Work::Step => tell_stepped(
+            output,
+            engine::step(table, r, held, held_owns, sets, earlier),
+        ),
         Work::Run(budget) => {
             let d = run_lent(table, r, held, held_owns, sets, earlier, budget);
-            tell_ran(b"run ", budget, d)
+            tell_ran(output, b"run ", budget, d)
         }
         Work::RunRecord(budget) => {
             let d = engine::run_record(table, r, held, held_owns, sets, earlier, budget);
-            tell_ran(b"run_record ", budget, d)
+            tell_ran(output, b"run_record ", budget, d)
         }
     }
 }
@@ -136,6 +145,7 @@ fn beyond() -> Record {
 
 // A look, and the record to go on with.
 fn look(
+    output: Stdout,
     table: &[u64; 2657],
     r: Record,
     look: Look,
@@ -145,18 +155,19 @@ fn look(
     earlier: &[u64; 4096],
 ) -> Record {
     match look {
-        Look::Read(instance) => read(table, r, held, held_owns, sets, earlier, instance),
-        Look::Day => read_day(table, r, held, held_owns, sets, earlier),
-        Look::Memory => tell_memory(held, held_owns, sets, earlier),
+        Look::Read(instance) => read(output, table, r, held, held_owns, sets, earlier, instance),
+        Look::Day => read_day(output, table, r, held, held_owns, sets, earlier),
+        Look::Memory => tell_memory(output, held, held_owns, sets, earlier),
         Look::Empty => return Record::empty(),
         Look::Beyond => return beyond(),
-        Look::Line => say(b"\n"),
+        Look::Line => say(output, b"\n"),
     }
     r
 }
 
 // The calls of a tape on a day of so many nodes, one after the other over one record and one set of memory.
 pub fn perform(
+    output: Stdout,
     table: [u64; 2657],
     tape: &[u8],
     nodes: &[u8],
@@ -174,6 +185,7 @@ pub fn perform(
         match call {
             Call::Change(c) => {
                 r = change(
+                    output,
                     &table,
                     r,
                     c,
@@ -186,10 +198,10 @@ pub fn perform(
                 );
             }
             Call::Work(w) => {
-                r = work(&table, r, w, &held, &held_owns, &mut sets, &earlier);
+                r = work(output, &table, r, w, &held, &held_owns, &mut sets, &earlier);
             }
             Call::Look(l) => {
-                r = look(&table, r, l, &held, &held_owns, &sets, &earlier);
+                r = look(output, &table, r, l, &held, &held_owns, &sets, &earlier);
             }
         }
     }

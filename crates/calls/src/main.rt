@@ -3,6 +3,9 @@
 // line of memory is a mark of all that is lent, which no refused call may change. `stdout` has the right lines, from docs/RULES.md, the recorded sessions and a program that
 // isn't this one.
 #![tactic(auto)]
+
+ghost use Rattle.std.specs.Prelude.{◌≤◌, length};
+
 mod act;
 mod lending;
 mod mark;
@@ -11,32 +14,49 @@ mod tape;
 mod tell;
 
 use act::perform;
+use std::fs::Files;
+use std::io::{Cursor, Read, Stdout};
+use std::{fs, io};
 use tape::ALL;
 use tell::say;
 use text::{ReadTable, ReadTree, read_table, read_tree};
 
 // The calls of a day, as `tape` spells them: with a table of zeros; without a tree; loads that are refused; with a record beyond its limits; the load; what is refused while
 // it is open; its rounds; what is refused then; readings; replacements that are refused; one that isn't; its rounds, and readings.
-fn call_day(table: [u64; 2657], nodes: &[u8], owns: &[u64], count: usize, point: usize) {
+fn call_day(
+    output: Stdout,
+    table: [u64; 2657],
+    nodes: &[u8],
+    owns: &[u64],
+    count: usize,
+    point: usize,
+) {
     let zeros = [0u64; 2657];
-    perform(zeros, b"klps1vrk ", nodes, owns, count, point);
+    perform(output, zeros, b"klps1vrk ", nodes, owns, count, point);
     let tape = b"kps1vr hfbm olps1vrnk lk lrpk 0s1vek eusk a gwxtk pk sss11ek a";
-    perform(table, tape, nodes, owns, count, point);
+    perform(output, table, tape, nodes, owns, count, point);
 }
 
 // The calls that replace at several points, on a day whose tree ends before the last two own sets: with a table of zeros; without a tree, where 22 comes before 16; with a
 // record beyond its limits; while the load is open; what is refused when it is done; a row that isn't; what is refused while that is open; its rounds, and readings; the
 // same row once more, which now alters nothing.
-fn call_rows(table: [u64; 2657], nodes: &[u8], owns: &[u64], count: usize, point: usize) {
+fn call_rows(
+    output: Stdout,
+    table: [u64; 2657],
+    nodes: &[u8],
+    owns: &[u64],
+    count: usize,
+    point: usize,
+) {
     let zeros = [0u64; 2657];
-    perform(zeros, b" kdk ", nodes, owns, count, point);
+    perform(output, zeros, b" kdk ", nodes, owns, count, point);
     let tape = b"kdz9k odznk lk dzk ek qz92jyk dk djk 0s1vk a dek";
-    perform(table, tape, nodes, owns, count, point);
+    perform(output, table, tape, nodes, owns, count, point);
 }
 
 // A day's text has its table and its tree, of at most 512 nodes; what stands behind them is no production of their tables. The leaf at the point is replaced; in a day with
 // rows, both leaves together too.
-fn tell_text(text: &[u8], point: usize, rows: bool) {
+fn tell_text(output: Stdout, text: &[u8], point: usize, rows: bool) {
     let mut table = [0u64; 2657];
     let mut nodes = [3u8; ALL];
     let mut owns = [0u64; ALL];
@@ -47,30 +67,45 @@ fn tell_text(text: &[u8], point: usize, rows: bool) {
     else {
         return;
     };
-    call_day(table, &nodes, &owns, count, point);
+    call_day(output, table, &nodes, &owns, count, point);
     if rows {
-        call_rows(table, &nodes, &owns, count, point);
+        call_rows(output, table, &nodes, &owns, count, point);
     }
 }
 
-fn tell_day(name: &[u8], point: usize, rows: bool) {
-    let mut text = io::large_buffer();
-    let fd = os::open_read(name);
-    if fd < 0 {
-        os::fail(name);
-        return;
-    }
-    let length = io::read_full(fd, &mut text);
-    libc::close(fd);
-    say(name);
-    say(b"\n");
-    tell_text(&text[..length], point, rows);
+// Reads until the buffer is full, the input ends or a read fails, and says how many bytes came; they stand at the buffer's start.
+fn read_full(input: &mut impl Read, buffer: &mut [u8]) -> usize
+    ensures { result ≤ length buffer.new }
+{
+    let room = buffer.len();
+    let mut text = Cursor::new(buffer);
+    let _ = io::copy(input, &mut text);
+    room.min(text.position() as usize)
 }
 
-fn main() {
-    say(b"| held open nodes point part rank round circles evaluations\n");
-    tell_day(b"session_a.txt", 1, true);
-    tell_day(b"full-512.txt", 511, false);
-    tell_day(b"waiver-outside.txt", 1, false);
-    tell_day(b"waiver-inside.txt", 1, false);
+fn tell_day(rt: &(impl Files + Eprint), output: Stdout, name: &str, point: usize, rows: bool) {
+    let mut text = [0u8; 65_536];
+    match fs::open(rt, name) {
+        Ok(mut file) => {
+            let length = read_full(&mut file, &mut text);
+            say(output, name.as_bytes());
+            say(output, b"\n");
+            tell_text(output, &text[..length], point, rows);
+        }
+        Err(e) => {
+            let _ = eprintln!(rt; "{name}: {e}");
+        }
+    }
+}
+
+fn main(rt: HostRuntime) {
+    let output = rt.stdout();
+    say(
+        output,
+        b"| held open nodes point part rank round circles evaluations\n",
+    );
+    tell_day(&rt, output, "session-a.txt", 1, true);
+    tell_day(&rt, output, "full-512.txt", 511, false);
+    tell_day(&rt, output, "waiver-outside.txt", 1, false);
+    tell_day(&rt, output, "waiver-inside.txt", 1, false);
 }

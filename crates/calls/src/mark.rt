@@ -1,5 +1,6 @@
 // All that is lent as one number, so that two lines show whether the calls between them have changed any of it.
 use crate::tell::{say, say_set, wide};
+use std::io::Stdout;
 use std::num::wrapping_add_u64;
 
 // A row's mark before its first word.
@@ -27,12 +28,17 @@ fn mix_words(mark: u64, words: &[u64]) -> u64 {
 }
 
 pub fn tell_memory(
+    output: Stdout,
     held: &[u8; 512],
     held_owns: &[u64; 512],
     sets: &[u64; 4096],
     earlier: &[u64; 4096],
 ) {
     let nodes = mix_words(mix_bytes(FIRST, held), held_owns);
-    say_set(b"memory ", mix_words(mix_words(nodes, sets), earlier));
-    say(b"\n");
+    say_set(
+        output,
+        b"memory ",
+        mix_words(mix_words(nodes, sets), earlier),
+    );
+    say(output, b"\n");
 }

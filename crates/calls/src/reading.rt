@@ -2,8 +2,10 @@
 use crate::mark::{FIRST, mix};
 use crate::tell::{say, say_set, tell_reading};
 use engine::{Reading, Record};
+use std::io::Stdout;
 
 pub fn read(
+    output: Stdout,
     table: &[u64; 2657],
     record: Record,
     held: &[u8; 512],
@@ -13,7 +15,7 @@ pub fn read(
     instance: usize,
 ) {
     let reading = engine::read(table, record, held, held_owns, sets, earlier, instance);
-    tell_reading(instance, reading);
+    tell_reading(output, instance, reading);
 }
 
 // The set read; a refusal counts as all reasons at once, which no set of these days has.
@@ -43,6 +45,7 @@ fn read_all(
 
 // The five sets of session A, which all days declare; one that only the tree of 512 nodes has, one that none has, and one past the last; and then all.
 pub fn read_day(
+    output: Stdout,
     table: &[u64; 2657],
     record: Record,
     held: &[u8; 512],
@@ -50,15 +53,15 @@ pub fn read_day(
     sets: &[u64; 4096],
     earlier: &[u64; 4096],
 ) {
-    read(table, record, held, held_owns, sets, earlier, 0);
-    read(table, record, held, held_owns, sets, earlier, 8);
-    read(table, record, held, held_owns, sets, earlier, 12);
-    read(table, record, held, held_owns, sets, earlier, 16);
-    read(table, record, held, held_owns, sets, earlier, 20);
-    read(table, record, held, held_owns, sets, earlier, 4095);
-    read(table, record, held, held_owns, sets, earlier, 4);
-    read(table, record, held, held_owns, sets, earlier, 4096);
+    read(output, table, record, held, held_owns, sets, earlier, 0);
+    read(output, table, record, held, held_owns, sets, earlier, 8);
+    read(output, table, record, held, held_owns, sets, earlier, 12);
+    read(output, table, record, held, held_owns, sets, earlier, 16);
+    read(output, table, record, held, held_owns, sets, earlier, 20);
+    read(output, table, record, held, held_owns, sets, earlier, 4095);
+    read(output, table, record, held, held_owns, sets, earlier, 4);
+    read(output, table, record, held, held_owns, sets, earlier, 4096);
     let all = read_all(table, record, held, held_owns, sets, earlier);
-    say_set(b"read all: ", all);
-    say(b"\n");
+    say_set(output, b"read all: ", all);
+    say(output, b"\n");
 }

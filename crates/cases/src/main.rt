@@ -1,35 +1,43 @@
 // Stored sessions, each from the file that an argument names: its name, and then all that the session prints.
 #![tactic(auto)]
 
+use std::env::Env;
+use std::fs::Files;
+use std::{fs, io};
+
 // One session; false where its file can't be read or its name can't be printed.
-fn tell(path: &[u8]) -> bool {
-    let fd = os::open_read(path);
-    if fd < 0 {
-        os::fail(path);
+fn tell(rt: &(impl Files + Print + Eprint), path: &str) -> bool {
+    match fs::open(rt, path) {
+        Ok(mut file) => {
+            let is_named = rt.println(path).is_ok();
+            if is_named {
+                session_serve::serve(&mut file, &mut io::writer(rt));
+            }
+            is_named
+        }
+        Err(e) => {
+            let _ = eprintln!(rt; "{path}: {e}");
+            false
+        }
+    }
+}
+
+// The session of argument i; false too where there is none.
+fn tell_argument(rt: &(impl Env + Files + Print + Eprint), i: usize) -> bool {
+    let mut path = [0u8; 4096];
+    let Ok(n) = rt.arg(i, &mut path) else {
         return false;
+    };
+    match str::from_utf8(&path[..n]) {
+        Ok(path) => tell(rt, path),
+        Err(_) => false,
     }
-    let is_named = io::write_all(1, path) && io::write_all(1, b"\n");
-    if is_named {
-        session_serve::serve(fd, 1);
-    }
-    libc::close(fd);
-    is_named
 }
 
-// The session of argument i.
-fn tell_argument(i: usize) -> bool {
-    let mut path = io::buffer();
-    let n = os::arg(i, &mut path);
-    tell(&path[..n])
-}
-
-fn main() {
-    let count = os::arg_count();
-    let mut i: usize = 1;
-    while i < count {
-        if !tell_argument(i) {
+fn main(rt: HostRuntime) {
+    for i in 1..usize::MAX {
+        if !tell_argument(&rt, i) {
             return;
         }
-        i += 1;
     }
 }
