@@ -1,5 +1,6 @@
 // The front door of sessions, however the bytes arrive: a session's text comes in pieces of any length, and the frames that it prints go out.
 #![tactic(auto)]
+
 mod feeding;
 
 pub use feeding::feed;

@@ -1,5 +1,6 @@
 // What a session is between two pieces of its text: a state by value, and lent memory that is judged before it is used.
 #![tactic(auto)]
+
 mod copying;
 mod ending;
 mod fitting;

@@ -1,5 +1,6 @@
 // What a session waits for and what it owes: from each state between two lines on, all that is still to be printed.
 #![tactic(auto)]
+
 mod points;
 
 pub use points::{PART_OWNS, PARTS, announced_in, keep_point, points_in};

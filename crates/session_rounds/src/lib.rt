@@ -1,5 +1,6 @@
 // What an update's rounds print.
 #![tactic(auto)]
+
 ghost use Rattle.std.specs.Prelude.{◌≡◌, cond, ◌+◌, ◌≤◌, length};
 ghost use Rattle.climb.specs.Inner.Wired.{Wiring};
 ghost use Rattle.update.specs.Within.{WithinLimits};

@@ -23,7 +23,6 @@ use Rattle.session_memory.specs.declared.State.{State}
 use Rattle.session_memory.proofs.Deciding.{tested_not}
 use Rattle.session_memory.proofs.Meaning.{overrun_means}
 use Rattle.session_memory.proofs.Refusing.{walk_number}
-
 use Rattle.session_memory.proofs.fitting.judge_state.Goals as goal
 
 module _ (s : State) (t window os : List ℕ) (m : Memory) (b : Bool) (begun : Tests b ((s.begun ≤ 28) × Begun (take s.begun window))) where
