@@ -393,7 +393,7 @@ pub fn circle_labels(
 ) -> usize
     requires given { Given n a.now b.now × (n ≤ length label.old) × (n ≤ length slots.old) × (n ≤ length queue.old) × (n ≤ length stage.old) × (n ≤ length after.old) }
     requires blank { Blank n first.old × (2 * n ≤ length next.old) × Blank n low.old }
-    requires blank_2 { Blank n rep.old × Blank n seen.old × (length rep.old ≤ length queue.old) × (length seen.old ≤ length queue.old) }
+    requires blank_marks { Blank n rep.old × Blank n seen.old × (length rep.old ≤ length queue.old) × (length seen.old ≤ length queue.old) }
     ensures label_after { (label.new ≡ over (labels_of (graph_of n a.now b.now)) label.old) × Kin n label.new after.new }
     ensures chained { Chained (arg_of a.now b.now) (2 * n) n first.new next.new × Roll (Marked n label.new) n slots.new result }
 {

@@ -149,7 +149,7 @@ pub fn tell_rounds<'a>(
     requires scratch { Scratch a.old b.old left.old rule.old label.old members.old ends.old }
     requires slots_most_in_bounds { (slots_most ≤ length values.old) × (printed ≤ length out.old) }
     ensures rounds_told { RoundsTold table.now (lent held.now held_owns.now sets.old earlier.now) «record» turns printed out.old result (lent held.now held_owns.now sets.new earlier.now) out.new }
-    ensures scratch_2 { Scratch a.new b.new left.new rule.new label.new members.new ends.new × (slots_most ≤ length values.new) }
+    ensures scratch_after { Scratch a.new b.new left.new rule.new label.new members.new ends.new × (slots_most ≤ length values.new) }
 {
     let nodes = record.nodes;
     let tree = &held[..nodes];

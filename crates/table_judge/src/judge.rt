@@ -85,7 +85,7 @@ fn judge_symbols(table: &[u64; 2657]) -> Verdict
 // Whether a symbol of a production isn't below the symbol count.
 fn is_foreign(table: &[u64; 2657], p: usize) -> bool
     requires p_bound { p < 64 }
-    requires p_bound_2 { child_count table.now p ≤ 4 }
+    requires children_bound { child_count table.now p ≤ 4 }
     ensures { result ≡ symbol_wrong table.now (production p) }
 {
     let symbols = symbol_count(table);

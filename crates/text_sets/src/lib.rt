@@ -42,7 +42,7 @@ pub fn put_sets(
     place: usize,
 ) -> usize
     requires tellable { Tellable table.now held.now sets.now nodes }
-    requires nodes_in_bounds { place + length (told_from table.now (take nodes held.now) sets.now 0 (8 * nodes)) ≤ length buffer.old }
+    requires text_in_bounds { place + length (told_from table.now (take nodes held.now) sets.now 0 (8 * nodes)) ≤ length buffer.old }
     ensures { (result ≡ place + length (told_from table.now (take nodes held.now) sets.now 0 (8 * nodes))) × (buffer.new ≡ setsAt buffer.old place (told_from table.now (take nodes held.now) sets.now 0 (8 * nodes))) }
 {
     let most = 8 * nodes;

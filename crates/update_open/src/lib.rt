@@ -160,7 +160,7 @@ fn exchange_row(
     earlier: &mut [u64],
 ) -> Begun
     requires grounded { Grounded table.now (lent held.old held_owns.old sets.old earlier.old) «record» }
-    requires record_value { held_refusal table.now (lent held.old held_owns.old sets.old earlier.old) «record» ≡ 0 }
+    requires held_sound { held_refusal table.now (lent held.old held_owns.old sets.old earlier.old) «record» ≡ 0 }
     requires named { Named «record» (bare_row (named_points points)) }
     ensures { PointsLeave table.now (lent held.old held_owns.old sets.old earlier.old) «record» points new.now new_owns.now result (lent held.new held_owns.new sets.new earlier.new) }
 {

@@ -5,8 +5,8 @@ ghost use Rattle.std.proofs.Math.Seq.{paste};
 
 // Copies `count` of the held nodes, from `at` on, to `to`.
 pub fn copy_nodes(out: &mut [u8], to: usize, held: &[u8], at: usize, count: usize)
-    requires count_in_bounds { to + count ≤ length out.old }
-    requires count_in_bounds_2 { at + count ≤ length held.now }
+    requires out_in_bounds { to + count ≤ length out.old }
+    requires held_in_bounds { at + count ≤ length held.now }
     ensures { out.new ≡ paste out.old to (drop at held.now) count }
 {
     let mut i = 0;
@@ -39,8 +39,8 @@ pub fn clear_nodes(held: &mut [u8], at: usize, count: usize)
 
 // Copies `count` of the sets, from `at` on, to `to`.
 pub fn copy_sets(out: &mut [u64], to: usize, sets: &[u64], at: usize, count: usize)
-    requires count_in_bounds { to + count ≤ length out.old }
-    requires count_in_bounds_2 { at + count ≤ length sets.now }
+    requires out_in_bounds { to + count ≤ length out.old }
+    requires sets_in_bounds { at + count ≤ length sets.now }
     ensures { out.new ≡ paste out.old to (drop at sets.now) count }
 {
     let mut i = 0;

@@ -73,7 +73,7 @@ pub fn place_tree(
 pub fn splice_nodes(held: &[u8], nodes: usize, cuts: Cuts, new: &[u8], out: &mut [u8]) -> usize
     requires nodes_in_bounds { nodes ≤ length held.now }
     requires fitting { Fitting cuts nodes (length new.now) }
-    requires held_in_bounds { length (spliced_by cuts new.now (take nodes held.now)) ≤ length out.old }
+    requires row_in_bounds { length (spliced_by cuts new.now (take nodes held.now)) ≤ length out.old }
     ensures value { result ≡ length (spliced_by cuts new.now (take nodes held.now)) }
     ensures out_after { out.new ≡ filled (spliced_by cuts new.now (take nodes held.now)) out.old }
 {
@@ -107,7 +107,7 @@ pub fn splice_nodes(held: &[u8], nodes: usize, cuts: Cuts, new: &[u8], out: &mut
 fn splice_sets(sets: &[u64], nodes: usize, cuts: Cuts, new: &[u64], out: &mut [u64]) -> usize
     requires nodes_in_bounds { nodes ≤ length sets.now }
     requires fitting { Fitting cuts nodes (length new.now) }
-    requires sets_in_bounds { length (spliced_by cuts new.now (take nodes sets.now)) ≤ length out.old }
+    requires row_in_bounds { length (spliced_by cuts new.now (take nodes sets.now)) ≤ length out.old }
     ensures value { result ≡ length (spliced_by cuts new.now (take nodes sets.now)) }
     ensures out_after { out.new ≡ filled (spliced_by cuts new.now (take nodes sets.now)) out.old }
 {
@@ -141,7 +141,7 @@ fn splice_sets(sets: &[u64], nodes: usize, cuts: Cuts, new: &[u64], out: &mut [u
 fn carry_sets(sets: &[u64], nodes: usize, cuts: Cuts, out: &mut [u64])
     requires nodes_in_bounds { 8 * nodes ≤ length sets.now }
     requires apart { Apart cuts nodes }
-    requires sets_in_bounds { length (carried_by cuts (take (8 * nodes) sets.now)) ≤ length out.old }
+    requires row_in_bounds { length (carried_by cuts (take (8 * nodes) sets.now)) ≤ length out.old }
     ensures { out.new ≡ filled (carried_by cuts (take (8 * nodes) sets.now)) out.old }
 {
     let count = cuts.count;
@@ -201,7 +201,7 @@ fn clear_undeclared(table: &[u64; 2657], nodes: &[u8], sets: &mut [u64])
 fn place_nodes(nodes: usize, cuts: Cuts, new: &[u8], held: &mut [u8]) -> usize
     requires nodes_le_nodes_most { (nodes ≤ nodes_most) × (nodes_most ≤ length held.old) }
     requires fitting { Fitting cuts nodes (length new.now) }
-    requires held_len_bound { length (spliced_by cuts new.now (take nodes held.old)) ≤ nodes_most }
+    requires row_bound { length (spliced_by cuts new.now (take nodes held.old)) ≤ nodes_most }
     ensures value { result ≡ length (spliced_by cuts new.now (take nodes held.old)) }
     ensures held_after { held.new ≡ filled (spliced_by cuts new.now (take nodes held.old)) held.old }
 {
@@ -215,7 +215,7 @@ fn place_nodes(nodes: usize, cuts: Cuts, new: &[u8], held: &mut [u8]) -> usize
 fn place_owns(nodes: usize, cuts: Cuts, new: &[u64], owns: &mut [u64])
     requires nodes_le_nodes_most { (nodes ≤ nodes_most) × (nodes_most ≤ length owns.old) }
     requires fitting { Fitting cuts nodes (length new.now) }
-    requires owns_len_bound { length (spliced_by cuts new.now (take nodes owns.old)) ≤ nodes_most }
+    requires row_bound { length (spliced_by cuts new.now (take nodes owns.old)) ≤ nodes_most }
     ensures { owns.new ≡ filled (spliced_by cuts new.now (take nodes owns.old)) owns.old }
 {
     let mut spliced = [0u64; 512];
@@ -236,7 +236,7 @@ fn arrange_sets(
     requires numbered { Numbered table.now tree.now }
     requires nodes_in_bounds { (8 * nodes ≤ length sets.now) × (8 * length tree.now ≤ length out.old) }
     requires apart { Apart cuts nodes }
-    requires sets_in_bounds { length (carried_by cuts (take (8 * nodes) sets.now)) ≤ length out.old }
+    requires row_in_bounds { length (carried_by cuts (take (8 * nodes) sets.now)) ≤ length out.old }
     ensures { out.new ≡ cleared table.now tree.now 0 (length tree.now) (filled (carried_by cuts (take (8 * nodes) sets.now)) out.old) }
 {
     carry_sets(sets, nodes, cuts, out);
@@ -261,7 +261,7 @@ pub fn place_row(
     requires nodes_le_nodes_most { (nodes ≤ nodes_most) × (nodes_most ≤ length held.old) × (nodes_most ≤ length held_owns.old) }
     requires slots_most_in_bounds { (slots_most ≤ length sets.old) × (slots_most ≤ length earlier.old) }
     ensures value { result ≡ length (nodes_row table.now (take nodes held.old) (cut_row (named_points points) new.now new_owns.now)) }
-    ensures earlier_after { lent held.new held_owns.new sets.new earlier.new ≡ replaced_row table.now (lent held.old held_owns.old sets.old earlier.old) nodes (cut_row (named_points points) new.now new_owns.now) }
+    ensures lent_after { lent held.new held_owns.new sets.new earlier.new ≡ replaced_row table.now (lent held.old held_owns.old sets.old earlier.old) nodes (cut_row (named_points points) new.now new_owns.now) }
 {
     let count = place_nodes(nodes, cuts, new, held);
     place_owns(nodes, cuts, new_owns, held_owns);

@@ -12,7 +12,7 @@ put_slot-at-requires-clause-x_bound c =
     let l = c.loop-x in
     let h : l.x < 8 * a.nodes = omega arith in
     let r = rest_length a.table.now (take a.nodes a.held.now) a.sets.now (8 * a.nodes) l.x h in
-    (h, omega (arith, c.requires.nodes_in_bounds, l.invariant.1.0, l.invariant.1.1.0))
+    (h, omega (arith, c.requires.text_in_bounds, l.invariant.1.0, l.invariant.1.1.0))
 
 pub loop-x-preserved : goal.loop-x-preserved
 loop-x-preserved c =

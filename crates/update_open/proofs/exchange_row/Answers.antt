@@ -51,22 +51,22 @@ pub cuts_of-cuts-requires-clause-limits : goal.cuts_of-cuts-requires-clause-limi
 cuts_of-cuts-requires-clause-limits c = limits _ c.requires.grounded.table
 
 pub cuts_of-cuts-requires-clause-numbered : goal.cuts_of-cuts-requires-clause-numbered
-cuts_of-cuts-requires-clause-numbered c = judged_numbered _ _ _ (sound c.args.table.now (lent c.args.held.now c.args.held_owns.now c.args.sets.now c.args.earlier.now) c.args.«record» c.args.points c.requires.grounded c.requires.record_value c.requires.named)
+cuts_of-cuts-requires-clause-numbered c = judged_numbered _ _ _ (sound c.args.table.now (lent c.args.held.now c.args.held_owns.now c.args.sets.now c.args.earlier.now) c.args.«record» c.args.points c.requires.grounded c.requires.held_sound c.requires.named)
 
 pub cuts_of-cuts-requires-clause-tree_len_bound : goal.cuts_of-cuts-requires-clause-tree_len_bound
-cuts_of-cuts-requires-clause-tree_len_bound c = (few c.args.table.now (lent c.args.held.now c.args.held_owns.now c.args.sets.now c.args.earlier.now) c.args.«record» c.args.points c.requires.grounded c.requires.record_value c.requires.named, (counted c.args.points c.requires.named.counted).few, inside c.args.table.now (lent c.args.held.now c.args.held_owns.now c.args.sets.now c.args.earlier.now) c.args.«record» c.args.points c.requires.grounded c.requires.record_value c.requires.named)
+cuts_of-cuts-requires-clause-tree_len_bound c = (few c.args.table.now (lent c.args.held.now c.args.held_owns.now c.args.sets.now c.args.earlier.now) c.args.«record» c.args.points c.requires.grounded c.requires.held_sound c.requires.named, (counted c.args.points c.requires.named.counted).few, inside c.args.table.now (lent c.args.held.now c.args.held_owns.now c.args.sets.now c.args.earlier.now) c.args.«record» c.args.points c.requires.grounded c.requires.held_sound c.requires.named)
 
 pub judge_replaced-requires : goal.judge_replaced-requires
-judge_replaced-requires c = (aimed c.args.table.now (lent c.args.held.now c.args.held_owns.now c.args.sets.now c.args.earlier.now) c.args.«record» c.args.points c.requires.grounded c.requires.record_value c.requires.named c.cuts_of-cuts.result c.cuts_of-cuts.ensures)
+judge_replaced-requires c = (aimed c.args.table.now (lent c.args.held.now c.args.held_owns.now c.args.sets.now c.args.earlier.now) c.args.«record» c.args.points c.requires.grounded c.requires.held_sound c.requires.named c.cuts_of-cuts.result c.cuts_of-cuts.ensures)
 
 pub place_row-count-requires-clause-splicing : goal.place_row-count-requires-clause-splicing
-place_row-count-requires-clause-splicing c = splices _ _ _ _ _ _ (aimed c.args.table.now (lent c.args.held.now c.args.held_owns.now c.args.sets.now c.args.earlier.now) c.args.«record» c.args.points c.requires.grounded c.requires.record_value c.requires.named c.cuts_of-cuts.result c.cuts_of-cuts.ensures) (none c.args.table.now (lent c.args.held.now c.args.held_owns.now c.args.sets.now c.args.earlier.now) c.args.«record» c.args.points c.args.new.now c.args.new_owns.now (holding c.args.table.now (lent c.args.held.now c.args.held_owns.now c.args.sets.now c.args.earlier.now) c.args.«record» c.args.points c.requires.grounded c.requires.record_value c.requires.named) c.requires.named (tree_long c.args.table.now (lent c.args.held.now c.args.held_owns.now c.args.sets.now c.args.earlier.now) c.args.«record» c.args.points c.requires.grounded c.requires.record_value c.requires.named) _ (aimed c.args.table.now (lent c.args.held.now c.args.held_owns.now c.args.sets.now c.args.earlier.now) c.args.«record» c.args.points c.requires.grounded c.requires.record_value c.requires.named c.cuts_of-cuts.result c.cuts_of-cuts.ensures) (sym c.in-Sound.ensures)) _ (owned c.args.table.now (lent c.args.held.now c.args.held_owns.now c.args.sets.now c.args.earlier.now) c.args.«record» c.args.points c.requires.grounded c.requires.record_value c.requires.named)
+place_row-count-requires-clause-splicing c = splices _ _ _ _ _ _ (aimed c.args.table.now (lent c.args.held.now c.args.held_owns.now c.args.sets.now c.args.earlier.now) c.args.«record» c.args.points c.requires.grounded c.requires.held_sound c.requires.named c.cuts_of-cuts.result c.cuts_of-cuts.ensures) (none c.args.table.now (lent c.args.held.now c.args.held_owns.now c.args.sets.now c.args.earlier.now) c.args.«record» c.args.points c.args.new.now c.args.new_owns.now (holding c.args.table.now (lent c.args.held.now c.args.held_owns.now c.args.sets.now c.args.earlier.now) c.args.«record» c.args.points c.requires.grounded c.requires.held_sound c.requires.named) c.requires.named (tree_long c.args.table.now (lent c.args.held.now c.args.held_owns.now c.args.sets.now c.args.earlier.now) c.args.«record» c.args.points c.requires.grounded c.requires.held_sound c.requires.named) _ (aimed c.args.table.now (lent c.args.held.now c.args.held_owns.now c.args.sets.now c.args.earlier.now) c.args.«record» c.args.points c.requires.grounded c.requires.held_sound c.requires.named c.cuts_of-cuts.result c.cuts_of-cuts.ensures) (sym c.in-Sound.ensures)) _ (owned c.args.table.now (lent c.args.held.now c.args.held_owns.now c.args.sets.now c.args.earlier.now) c.args.«record» c.args.points c.requires.grounded c.requires.held_sound c.requires.named)
 
 pub shift_points-requires : goal.shift_points-requires
-shift_points-requires c = shiftable c.args.table.now (lent c.args.held.now c.args.held_owns.now c.args.sets.now c.args.earlier.now) c.args.«record» c.args.points c.args.new.now c.args.new_owns.now (holding c.args.table.now (lent c.args.held.now c.args.held_owns.now c.args.sets.now c.args.earlier.now) c.args.«record» c.args.points c.requires.grounded c.requires.record_value c.requires.named) c.requires.named (tree_long c.args.table.now (lent c.args.held.now c.args.held_owns.now c.args.sets.now c.args.earlier.now) c.args.«record» c.args.points c.requires.grounded c.requires.record_value c.requires.named) _ (aimed c.args.table.now (lent c.args.held.now c.args.held_owns.now c.args.sets.now c.args.earlier.now) c.args.«record» c.args.points c.requires.grounded c.requires.record_value c.requires.named c.cuts_of-cuts.result c.cuts_of-cuts.ensures) (sym c.in-Sound.ensures)
+shift_points-requires c = shiftable c.args.table.now (lent c.args.held.now c.args.held_owns.now c.args.sets.now c.args.earlier.now) c.args.«record» c.args.points c.args.new.now c.args.new_owns.now (holding c.args.table.now (lent c.args.held.now c.args.held_owns.now c.args.sets.now c.args.earlier.now) c.args.«record» c.args.points c.requires.grounded c.requires.held_sound c.requires.named) c.requires.named (tree_long c.args.table.now (lent c.args.held.now c.args.held_owns.now c.args.sets.now c.args.earlier.now) c.args.«record» c.args.points c.requires.grounded c.requires.held_sound c.requires.named) _ (aimed c.args.table.now (lent c.args.held.now c.args.held_owns.now c.args.sets.now c.args.earlier.now) c.args.«record» c.args.points c.requires.grounded c.requires.held_sound c.requires.named c.cuts_of-cuts.result c.cuts_of-cuts.ensures) (sym c.in-Sound.ensures)
 
 pub returns-in-Sound : goal.returns-in-Sound
-returns-in-Sound c = row_carried c.args.table.now (lent c.args.held.now c.args.held_owns.now c.args.sets.now c.args.earlier.now) c.args.«record» c.args.points c.args.new.now c.args.new_owns.now (holding c.args.table.now (lent c.args.held.now c.args.held_owns.now c.args.sets.now c.args.earlier.now) c.args.«record» c.args.points c.requires.grounded c.requires.record_value c.requires.named) c.requires.named (tree_long c.args.table.now (lent c.args.held.now c.args.held_owns.now c.args.sets.now c.args.earlier.now) c.args.«record» c.args.points c.requires.grounded c.requires.record_value c.requires.named) _ (aimed c.args.table.now (lent c.args.held.now c.args.held_owns.now c.args.sets.now c.args.earlier.now) c.args.«record» c.args.points c.requires.grounded c.requires.record_value c.requires.named c.cuts_of-cuts.result c.cuts_of-cuts.ensures) (sym c.in-Sound.ensures) _ _ _ _ c.place_row-count.ensures.value c.shift_points.ensures c.just_opened-next.ensures c.place_row-count.ensures.earlier_after
+returns-in-Sound c = row_carried c.args.table.now (lent c.args.held.now c.args.held_owns.now c.args.sets.now c.args.earlier.now) c.args.«record» c.args.points c.args.new.now c.args.new_owns.now (holding c.args.table.now (lent c.args.held.now c.args.held_owns.now c.args.sets.now c.args.earlier.now) c.args.«record» c.args.points c.requires.grounded c.requires.held_sound c.requires.named) c.requires.named (tree_long c.args.table.now (lent c.args.held.now c.args.held_owns.now c.args.sets.now c.args.earlier.now) c.args.«record» c.args.points c.requires.grounded c.requires.held_sound c.requires.named) _ (aimed c.args.table.now (lent c.args.held.now c.args.held_owns.now c.args.sets.now c.args.earlier.now) c.args.«record» c.args.points c.requires.grounded c.requires.held_sound c.requires.named c.cuts_of-cuts.result c.cuts_of-cuts.ensures) (sym c.in-Sound.ensures) _ _ _ _ c.place_row-count.ensures.value c.shift_points.ensures c.just_opened-next.ensures c.place_row-count.ensures.lent_after
 
 pub returns-in-Refused : goal.returns-in-Refused
-returns-in-Refused c = row_refused c.args.table.now (lent c.args.held.now c.args.held_owns.now c.args.sets.now c.args.earlier.now) c.args.«record» c.args.points c.args.new.now c.args.new_owns.now (holding c.args.table.now (lent c.args.held.now c.args.held_owns.now c.args.sets.now c.args.earlier.now) c.args.«record» c.args.points c.requires.grounded c.requires.record_value c.requires.named) c.requires.named (tree_long c.args.table.now (lent c.args.held.now c.args.held_owns.now c.args.sets.now c.args.earlier.now) c.args.«record» c.args.points c.requires.grounded c.requires.record_value c.requires.named) c.in-Refused.r c.in-Refused.ensures
+returns-in-Refused c = row_refused c.args.table.now (lent c.args.held.now c.args.held_owns.now c.args.sets.now c.args.earlier.now) c.args.«record» c.args.points c.args.new.now c.args.new_owns.now (holding c.args.table.now (lent c.args.held.now c.args.held_owns.now c.args.sets.now c.args.earlier.now) c.args.«record» c.args.points c.requires.grounded c.requires.held_sound c.requires.named) c.requires.named (tree_long c.args.table.now (lent c.args.held.now c.args.held_owns.now c.args.sets.now c.args.earlier.now) c.args.«record» c.args.points c.requires.grounded c.requires.held_sound c.requires.named) c.in-Refused.r c.in-Refused.ensures

@@ -6,8 +6,8 @@ use Rattle.update_judge.proofs.Orders.{named}
 use Rattle.update_open.proofs.Answers.{named_refused}
 use Rattle.update_open.proofs.replace_points_judged.Goals as goal
 
-pub exchange_row-requires-clause-record_value : goal.exchange_row-requires-clause-record_value
-exchange_row-requires-clause-record_value c = c.requires.tree (named c.args.table.now (lent c.args.held.now c.args.held_owns.now c.args.sets.now c.args.earlier.now) c.args.«record» (bare_row (named_points c.args.points)) (sym c.in-Sound.ensures)).held
+pub exchange_row-requires-clause-held_sound : goal.exchange_row-requires-clause-held_sound
+exchange_row-requires-clause-held_sound c = c.requires.tree (named c.args.table.now (lent c.args.held.now c.args.held_owns.now c.args.sets.now c.args.earlier.now) c.args.«record» (bare_row (named_points c.args.points)) (sym c.in-Sound.ensures)).held
 
 pub exchange_row-requires-clause-named : goal.exchange_row-requires-clause-named
 exchange_row-requires-clause-named c = (named c.args.table.now (lent c.args.held.now c.args.held_owns.now c.args.sets.now c.args.earlier.now) c.args.«record» (bare_row (named_points c.args.points)) (sym c.in-Sound.ensures))

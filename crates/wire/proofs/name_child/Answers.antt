@@ -13,7 +13,7 @@ loop-i-init c = (omega arith, refl, row_none _ _ _)
 pub loop-i-preserved : goal.loop-i-preserved
 loop-i-preserved c =
     let k = c.loop-i in
-    let own : Own c.args.q k.named = row_own c.args.q c.args.at c.args.node k.i c.args.named.now k.named c.requires.le_at.0 c.requires.own k.invariant.2 in
+    let own : Own c.args.q k.named = row_own c.args.q c.args.at c.args.node k.i c.args.named.now k.named c.requires.at_bound.0 c.requires.own k.invariant.2 in
     let name : get_or k.named k.i 0 ≡ 8 * c.args.q + k.i = own.names k.i c.loop-i-test.true in
     let inside : 256 * c.args.at + k.i < length k.named = omega (arith, own.long) in (
       omega arith,

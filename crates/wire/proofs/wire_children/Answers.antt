@@ -87,6 +87,6 @@ wire_sets-requires-clause-sets c =
       every = c.inherited_of.ensures ∙ ap (inherited c.args.table.now) (symbol_is c.args.table.now c.args.productions.now c.requires.held c.args.q c.requires.q_in_bounds c.index-p.result c.args.children c.index-p.ensures.0 c.requires.children_value c.loop-number.at c.loop-number.number _ refl c.loop-number.invariant.0.1 c.loop-number-test.true c.args.named.now c.requires.named c.wide-x.result c.wide-x.ensures _ _ c.index.ensures.0 c.left_of-s.ensures) ∙ child_sets c.args.table.now c.args.productions.now c.requires.held c.args.q c.requires.q_in_bounds c.loop-number.at v.0 (within c.args.table.now c.args.productions.now c.requires.held c.args.q c.requires.q_in_bounds c.index-p.result c.args.children c.index-p.ensures.0 c.requires.children_value c.loop-number.at c.loop-number.number _ refl c.loop-number.invariant.0.1 c.loop-number-test.true);
     }
 
-pub returns-clause-partly_2 : goal.returns-clause-partly_2
-returns-clause-partly_2 c =
+pub returns-clause-partly_after : goal.returns-clause-partly_after
+returns-clause-partly_after c =
     skip_rest c.args.table.now c.args.productions.now c.requires.held c.args.q c.requires.q_in_bounds c.loop-number.at _ _ _ _ (omega (arith, c.requires.children_value, c.loop-number.invariant.0, c.loop-number-test.false)) c.loop-number.invariant.1

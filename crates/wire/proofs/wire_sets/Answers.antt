@@ -68,11 +68,11 @@ module _ (t ns : List ℕ) (held : Held t ns) (q : ℕ) (b : q < length ns) (at 
         let w : heads + 2 * i ≡ 97 + 2 * (20 * get_or ns q 0 + (4 * at + i)) = omega (arith, sets.rules, sets.words) in
         ap (λ n. get_or t n 0) w
 
-pub returns-then-count-i-clause-partly_2 : goal.returns-then-count-i-clause-partly_2
-returns-then-count-i-clause-partly_2 c = ends c.args.table.now c.args.productions.now c.requires.held c.args.q c.requires.q_in_bounds c.args.at c.args.number c.args.heads c.args.from c.args.count c.requires.sets c.loop-i.i _ _ _ _ c.loop-i.invariant.0 c.if-count-i.true c.loop-i.invariant.1
+pub returns-then-count-i-clause-partly_after : goal.returns-then-count-i-clause-partly_after
+returns-then-count-i-clause-partly_after c = ends c.args.table.now c.args.productions.now c.requires.held c.args.q c.requires.q_in_bounds c.args.at c.args.number c.args.heads c.args.from c.args.count c.requires.sets c.loop-i.i _ _ _ _ c.loop-i.invariant.0 c.if-count-i.true c.loop-i.invariant.1
 
-pub returns-clause-partly_2 : goal.returns-clause-partly_2
-returns-clause-partly_2 c = ends c.args.table.now c.args.productions.now c.requires.held c.args.q c.requires.q_in_bounds c.args.at c.args.number c.args.heads c.args.from c.args.count c.requires.sets c.loop-i.i _ _ _ _ c.loop-i.invariant.0 (omega (arith, few c.args.table.now c.args.productions.now c.requires.held c.args.q c.requires.q_in_bounds c.args.at c.args.number c.args.heads c.args.from c.args.count c.requires.sets)) c.loop-i.invariant.1
+pub returns-clause-partly_after : goal.returns-clause-partly_after
+returns-clause-partly_after c = ends c.args.table.now c.args.productions.now c.requires.held c.args.q c.requires.q_in_bounds c.args.at c.args.number c.args.heads c.args.from c.args.count c.requires.sets c.loop-i.i _ _ _ _ c.loop-i.invariant.0 (omega (arith, few c.args.table.now c.args.productions.now c.requires.held c.args.q c.requires.q_in_bounds c.args.at c.args.number c.args.heads c.args.from c.args.count c.requires.sets)) c.loop-i.invariant.1
 
 pub offset_bounds-table-heads : goal.offset_bounds-table-heads
 offset_bounds-table-heads c = omega (arith, c.requires.sets, rule_small c.args.table.now c.args.productions.now c.requires.held c.args.q c.requires.q_in_bounds c.args.at c.args.number c.args.heads c.args.from c.args.count c.requires.sets c.loop-i.i c.if-count-i.false)
@@ -83,11 +83,11 @@ bounds-table-heads c = omega (arith, c.requires.sets, rule_small c.args.table.no
 pub reads_in-reads-requires-clause-head_bound : goal.reads_in-reads-requires-clause-head_bound
 reads_in-reads-requires-clause-head_bound c = rw (head_is c.args.table.now c.args.productions.now c.requires.held c.args.q c.requires.q_in_bounds c.args.at c.args.number c.args.heads c.args.from c.args.count c.requires.sets c.loop-i.i c.if-count-i.false) (op_known c.args.table.now c.args.productions.now c.args.named.now c.requires.held c.args.q c.requires.q_in_bounds c.requires.named c.args.at c.loop-i.i (has c.args.table.now c.args.productions.now c.requires.held c.args.q c.requires.q_in_bounds c.args.at c.args.number c.args.heads c.args.from c.args.count c.requires.sets c.loop-i.i c.if-count-i.false))
 
-pub reads_in-reads-requires-clause-fit : goal.reads_in-reads-requires-clause-fit
-reads_in-reads-requires-clause-fit c = rw (head_is c.args.table.now c.args.productions.now c.requires.held c.args.q c.requires.q_in_bounds c.args.at c.args.number c.args.heads c.args.from c.args.count c.requires.sets c.loop-i.i c.if-count-i.false) (fit_first c.args.table.now c.args.productions.now c.args.named.now c.requires.held c.args.q c.requires.q_in_bounds c.requires.named c.args.at c.loop-i.i (has c.args.table.now c.args.productions.now c.requires.held c.args.q c.requires.q_in_bounds c.args.at c.args.number c.args.heads c.args.from c.args.count c.requires.sets c.loop-i.i c.if-count-i.false))
+pub reads_in-reads-requires-clause-a_fits : goal.reads_in-reads-requires-clause-a_fits
+reads_in-reads-requires-clause-a_fits c = rw (head_is c.args.table.now c.args.productions.now c.requires.held c.args.q c.requires.q_in_bounds c.args.at c.args.number c.args.heads c.args.from c.args.count c.requires.sets c.loop-i.i c.if-count-i.false) (fit_first c.args.table.now c.args.productions.now c.args.named.now c.requires.held c.args.q c.requires.q_in_bounds c.requires.named c.args.at c.loop-i.i (has c.args.table.now c.args.productions.now c.requires.held c.args.q c.requires.q_in_bounds c.args.at c.args.number c.args.heads c.args.from c.args.count c.requires.sets c.loop-i.i c.if-count-i.false))
 
-pub reads_in-reads-requires-clause-fit_2 : goal.reads_in-reads-requires-clause-fit_2
-reads_in-reads-requires-clause-fit_2 c = rw (head_is c.args.table.now c.args.productions.now c.requires.held c.args.q c.requires.q_in_bounds c.args.at c.args.number c.args.heads c.args.from c.args.count c.requires.sets c.loop-i.i c.if-count-i.false) (fit_second c.args.table.now c.args.productions.now c.args.named.now c.requires.held c.args.q c.requires.q_in_bounds c.requires.named c.args.at c.loop-i.i (has c.args.table.now c.args.productions.now c.requires.held c.args.q c.requires.q_in_bounds c.args.at c.args.number c.args.heads c.args.from c.args.count c.requires.sets c.loop-i.i c.if-count-i.false))
+pub reads_in-reads-requires-clause-b_fits : goal.reads_in-reads-requires-clause-b_fits
+reads_in-reads-requires-clause-b_fits c = rw (head_is c.args.table.now c.args.productions.now c.requires.held c.args.q c.requires.q_in_bounds c.args.at c.args.number c.args.heads c.args.from c.args.count c.requires.sets c.loop-i.i c.if-count-i.false) (fit_second c.args.table.now c.args.productions.now c.args.named.now c.requires.held c.args.q c.requires.q_in_bounds c.requires.named c.args.at c.loop-i.i (has c.args.table.now c.args.productions.now c.requires.held c.args.q c.requires.q_in_bounds c.args.at c.args.number c.args.heads c.args.from c.args.count c.requires.sets c.loop-i.i c.if-count-i.false))
 
 pub offset_bounds-a-x : goal.offset_bounds-a-x
 offset_bounds-a-x c = omega (arith, small c.args.table.now c.args.productions.now c.requires.held c.args.q c.requires.q_in_bounds c.args.at c.args.number c.args.heads c.args.from c.args.count c.requires.sets c.loop-i.i c.if-count-i.false)

@@ -33,7 +33,7 @@ put_sets-requires c =
     let k = c.requires.holding in
     record {
       tellable = tellable a.table.now (lent c.args.held.now c.args.held_owns.now c.args.sets.now c.args.earlier.now) a.«record» k.footing (k.tree (not-false a.«record».held c.if-not-record.false));
-      nodes_in_bounds = omega (arith, told_most a.table.now (take n a.held.now) a.sets.now (8 * n) 0, k.footing.within.nodes, c.requires.spacious.room);
+      text_in_bounds = omega (arith, told_most a.table.now (take n a.held.now) a.sets.now (8 * n) 0, k.footing.within.nodes, c.requires.spacious.room);
     }
 
 pub returns : goal.returns

@@ -22,14 +22,14 @@ lending s = record {
 pub place_nodes-count-requires-clause-fitting : goal.place_nodes-count-requires-clause-fitting
 place_nodes-count-requires-clause-fitting c = nodes_fit c.args.table.now _ c.args.nodes c.args.points c.args.cuts c.args.new.now c.args.new_owns.now (lending (goal.at.place_nodes-count-requires-clause-fitting c).Start)
 
-pub place_nodes-count-requires-clause-held_len_bound : goal.place_nodes-count-requires-clause-held_len_bound
-place_nodes-count-requires-clause-held_len_bound c = nodes_few c.args.table.now _ c.args.nodes c.args.points c.args.cuts c.args.new.now c.args.new_owns.now (lending (goal.at.place_nodes-count-requires-clause-held_len_bound c).Start)
+pub place_nodes-count-requires-clause-row_bound : goal.place_nodes-count-requires-clause-row_bound
+place_nodes-count-requires-clause-row_bound c = nodes_few c.args.table.now _ c.args.nodes c.args.points c.args.cuts c.args.new.now c.args.new_owns.now (lending (goal.at.place_nodes-count-requires-clause-row_bound c).Start)
 
 pub place_owns-requires-clause-fitting : goal.place_owns-requires-clause-fitting
 place_owns-requires-clause-fitting c = owns_fit c.args.table.now _ c.args.nodes c.args.points c.args.cuts c.args.new.now c.args.new_owns.now (lending (goal.at.place_owns-requires-clause-fitting c).Start)
 
-pub place_owns-requires-clause-owns_len_bound : goal.place_owns-requires-clause-owns_len_bound
-place_owns-requires-clause-owns_len_bound c = owns_few c.args.table.now _ c.args.nodes c.args.points c.args.cuts c.args.new.now c.args.new_owns.now (lending (goal.at.place_owns-requires-clause-owns_len_bound c).Start)
+pub place_owns-requires-clause-row_bound : goal.place_owns-requires-clause-row_bound
+place_owns-requires-clause-row_bound c = owns_few c.args.table.now _ c.args.nodes c.args.points c.args.cuts c.args.new.now c.args.new_owns.now (lending (goal.at.place_owns-requires-clause-row_bound c).Start)
 
 pub slice_bounds-arrange_sets-end : goal.slice_bounds-arrange_sets-end
 slice_bounds-arrange_sets-end c =
@@ -57,8 +57,8 @@ arrange_sets-requires-clause-nodes_in_bounds c =
 pub arrange_sets-requires-clause-apart : goal.arrange_sets-requires-clause-apart
 arrange_sets-requires-clause-apart c = cuts_apart c.args.table.now _ c.args.nodes c.args.points c.args.cuts c.args.new.now c.args.new_owns.now (lending (goal.at.arrange_sets-requires-clause-apart c).Start)
 
-pub arrange_sets-requires-clause-sets_in_bounds : goal.arrange_sets-requires-clause-sets_in_bounds
-arrange_sets-requires-clause-sets_in_bounds c = sets_few c.args.table.now _ c.args.nodes c.args.points c.args.cuts c.args.new.now c.args.new_owns.now (lending (goal.at.arrange_sets-requires-clause-sets_in_bounds c).Start)
+pub arrange_sets-requires-clause-row_in_bounds : goal.arrange_sets-requires-clause-row_in_bounds
+arrange_sets-requires-clause-row_in_bounds c = sets_few c.args.table.now _ c.args.nodes c.args.points c.args.cuts c.args.new.now c.args.new_owns.now (lending (goal.at.arrange_sets-requires-clause-row_in_bounds c).Start)
 
 pub overflow_mul-slots : goal.overflow_mul-slots
 overflow_mul-slots c =
@@ -85,7 +85,7 @@ fill_sets-requires c =
 pub returns-clause-value : goal.returns-clause-value
 returns-clause-value c = count_is c.args.table.now _ c.args.nodes c.args.points c.args.cuts c.args.new.now c.args.new_owns.now (lending (goal.at.returns-clause-value c).Start) c.place_nodes-count.new.held c.place_nodes-count.result c.place_nodes-count.ensures.held_after c.place_nodes-count.ensures.value
 
-pub returns-clause-earlier_after : goal.returns-clause-earlier_after
-returns-clause-earlier_after c =
-    row_placed c.args.table.now _ c.args.nodes c.args.points c.args.cuts c.args.new.now c.args.new_owns.now (lending (goal.at.returns-clause-earlier_after c).Start) c.place_nodes-count.new.held c.place_nodes-count.result c.place_nodes-count.ensures.held_after c.place_nodes-count.ensures.value
+pub returns-clause-lent_after : goal.returns-clause-lent_after
+returns-clause-lent_after c =
+    row_placed c.args.table.now _ c.args.nodes c.args.points c.args.cuts c.args.new.now c.args.new_owns.now (lending (goal.at.returns-clause-lent_after c).Start) c.place_nodes-count.new.held c.place_nodes-count.result c.place_nodes-count.ensures.held_after c.place_nodes-count.ensures.value
     c.arrange_sets.new.out c.arrange_sets.ensures c.place_owns.new.owns c.fill_sets.new.sets c.place_owns.ensures c.fill_sets.ensures
