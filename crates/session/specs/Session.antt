@@ -107,7 +107,7 @@ abbrev pub command : List ℕ → List ℕ → Frame → ℕ → ℕ → ℕ →
 command s t (Change c) line place next r m go = changing s t c line place next r m go
 command s t Dump line place next r m go = and_on (dump_told line t r m) place next go
 command s t Over line place next r m go = []
-command s t (Refused refusal at-line) line place next r m go = refusal_text (number_of refusal) at-line
+command s t (Refused refusal at_line) line place next r m go = refusal_text (number_of refusal) at_line
 command s t (Rule a) line place next r m go = refusal_text 14 line
 command s t (Node a b) line place next r m go = refusal_text 14 line
 command s t (PointFrame a b) line place next r m go = refusal_text 14 line

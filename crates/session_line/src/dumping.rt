@@ -1,6 +1,6 @@
 // What a dump prints.
 ghost use Rattle.std.specs.Prelude.{◌≡◌, ◌+◌, length};
-ghost use Rattle.std.proofs.lemmas.List.Edits.{sets as setsAt};
+ghost use Rattle.std.proofs.lemmas.List.Edits.{sets as sets_at};
 ghost use Rattle.update_judge.specs.Order.{Holding};
 ghost use Rattle.session.specs.Session.{dump_told};
 ghost use Rattle.session_owed.specs.Hearing.{Spacious};
@@ -27,7 +27,7 @@ pub fn tell_sets(
 ) -> Told
     requires holding { Holding table.now (lent held.now held_owns.now sets.now earlier.now) «record» }
     requires spacious { Spacious out.old printed }
-    ensures { (result.awaited ≡ Command) × (result.«record» ≡ «record») × (result.printed ≡ printed + length (dump_told line table.now «record» (lent held.now held_owns.now sets.now earlier.now)).text) × (out.new ≡ setsAt out.old printed (dump_told line table.now «record» (lent held.now held_owns.now sets.now earlier.now)).text) }
+    ensures { (result.awaited ≡ Command) × (result.«record» ≡ «record») × (result.printed ≡ printed + length (dump_told line table.now «record» (lent held.now held_owns.now sets.now earlier.now)).text) × (out.new ≡ sets_at out.old printed (dump_told line table.now «record» (lent held.now held_owns.now sets.now earlier.now)).text) }
 {
     let open = record.open;
     if is_open(open) {

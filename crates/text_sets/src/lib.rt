@@ -2,7 +2,7 @@
 #![tactic(auto)]
 
 ghost use Rattle.std.specs.Prelude.{◌≡◌, ◌+◌, ◌*◌, ◌<◌, ◌≤◌, length, take};
-ghost use Rattle.std.proofs.lemmas.List.Edits.{sets as setsAt};
+ghost use Rattle.std.proofs.lemmas.List.Edits.{sets as sets_at};
 ghost use Rattle.text_sets.specs.Telling.{told_from, slot_text, Tellable};
 ghost use Rattle.text_sets.specs.Calls.{DumpSays};
 ghost use Rattle.update.specs.Memories.{lent};
@@ -24,7 +24,7 @@ fn put_slot(
 ) -> usize
     requires tellable { Tellable table.now held.now sets.now nodes }
     requires x_bound { (x < 8 * nodes) × (place + length (slot_text table.now (take nodes held.now) sets.now x) ≤ length buffer.old) }
-    ensures { (result ≡ place + length (slot_text table.now (take nodes held.now) sets.now x)) × (buffer.new ≡ setsAt buffer.old place (slot_text table.now (take nodes held.now) sets.now x)) }
+    ensures { (result ≡ place + length (slot_text table.now (take nodes held.now) sets.now x)) × (buffer.new ≡ sets_at buffer.old place (slot_text table.now (take nodes held.now) sets.now x)) }
 {
     if is_declared(table, held, nodes, x) {
         return put_set(buffer, place, x as u16, sets[x]);
@@ -43,7 +43,7 @@ pub fn put_sets(
 ) -> usize
     requires tellable { Tellable table.now held.now sets.now nodes }
     requires text_in_bounds { place + length (told_from table.now (take nodes held.now) sets.now 0 (8 * nodes)) ≤ length buffer.old }
-    ensures { (result ≡ place + length (told_from table.now (take nodes held.now) sets.now 0 (8 * nodes))) × (buffer.new ≡ setsAt buffer.old place (told_from table.now (take nodes held.now) sets.now 0 (8 * nodes))) }
+    ensures { (result ≡ place + length (told_from table.now (take nodes held.now) sets.now 0 (8 * nodes))) × (buffer.new ≡ sets_at buffer.old place (told_from table.now (take nodes held.now) sets.now 0 (8 * nodes))) }
 {
     let most = 8 * nodes;
     let mut at = place;

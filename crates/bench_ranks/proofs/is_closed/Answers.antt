@@ -1,5 +1,5 @@
 -- `is_closed` meets its contract: every slot is asked. Assumes nothing.
-use Rattle.std.proofs.Common.{◌≡◌, ℕ, ◌≤◌, ◌<◌, subst, true≢false, arith}
+use Rattle.std.proofs.Common.{◌≡◌, subst, true≢false, arith}
 use Rattle.std.proofs.lemmas.Bool.{false≢true}
 use native.Mathlib.Decide.{dec_lt}
 use Rattle.bench_ranks.specs.Inner.Slots.{Sure}

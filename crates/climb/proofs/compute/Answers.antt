@@ -1,11 +1,11 @@
 -- `compute`: the values in a row and the flag, as they are left by what is left of the circle. Assumes nothing.
-use mathlib.Core.Path.{◌≡◌, refl, ap, ◌∙◌}
+use mathlib.Core.Path.{◌≡◌, ap, ◌∙◌}
 use Prim.Native.Nat.{◌-◌}
 use native.Mathlib.Nat.{le_refl}
 use native.Mathlib.Numerals.{add-one}
 use native.Mathlib.Omega.{arith}
 use lib.Dec.{eqb}
-use lib.ListN.{length, get_or, length-set}
+use lib.ListN.{get_or, length-set}
 use Rattle.climb.specs.Memory.{at}
 use Rattle.climb.specs.Inner.Wired.{eval_of}
 use Rattle.climb.proofs.Places.{rows_on, row_on, row_over, still_on_lem, still_over}

@@ -1,5 +1,5 @@
 -- What a look at the held tree is refused by, then the text's room. Assumes nothing.
-use Rattle.std.proofs.Common.{◌≡◌, ◌*◌, length, take, ap, sym, ◌∙◌, arith}
+use Rattle.std.proofs.Common.{length, ap, sym, ◌∙◌, arith}
 use Rattle.std.proofs.lemmas.List.Edits.{sets}
 use Rattle.update.specs.Memories.{lent}
 use Rattle.update_judge.proofs.Orders.{looked}

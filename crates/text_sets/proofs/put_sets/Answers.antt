@@ -1,6 +1,6 @@
 -- A turn stores its slot's line, so what is left to store is the rest. Assumes nothing.
-use Rattle.std.proofs.Common.{◌≡◌, List, ℕ, ◌+◌, ◌*◌, ◌<◌, ◌≤◌, length, take, ap, sym, ◌∙◌, arith}
-use Rattle.std.proofs.lemmas.List.Edits.{sets as setsAt}
+use Rattle.std.proofs.Common.{◌+◌, ◌*◌, ◌<◌, length, take, ap, sym, ◌∙◌, arith}
+use Rattle.std.proofs.lemmas.List.Edits.{sets as sets_at}
 use Rattle.std.proofs.Math.Seq.{length-sets}
 use Rattle.text_sets.specs.Telling.{slot_text}
 use Rattle.text_sets.proofs.Slots.{rest, rest_length, rest_none, stored_next}
@@ -29,7 +29,7 @@ loop-x-preserved c =
         (
           omega (arith, f.ensures.0, l.invariant.1.1.0),
           l.invariant.1.1.1 ∙ stored_next a.table.now ns a.sets.now (8 * a.nodes) l.x h l.buffer l.at
-              ∙ sym (λ i. setsAt (f.ensures.1 i) (f.ensures.0 i) (rest a.table.now ns a.sets.now (8 * a.nodes) (l.x + 1))),
+              ∙ sym (λ i. sets_at (f.ensures.1 i) (f.ensures.0 i) (rest a.table.now ns a.sets.now (8 * a.nodes) (l.x + 1))),
         ),
       ),
     )
@@ -39,4 +39,4 @@ returns c =
     let a = c.args in
     let l = c.loop-x in
     let n = rest_none a.table.now (take a.nodes a.held.now) a.sets.now (8 * a.nodes) l.x (omega arith) in
-    (omega (arith, ap length n, l.invariant.1.1.0), sym (l.invariant.1.1.1 ∙ ap (setsAt l.buffer l.at) n))
+    (omega (arith, ap length n, l.invariant.1.1.0), sym (l.invariant.1.1.1 ∙ ap (sets_at l.buffer l.at) n))

@@ -1,9 +1,9 @@
 -- Name by name: those before i stand at the position, and the node's own stay. Assumes nothing.
-use Prim.Native.Nat.{◌+◌, ◌*◌, ◌≤◌, ◌<◌}
+use Prim.Native.Nat.{◌+◌, ◌*◌, ◌<◌}
 use mathlib.Core.Path.{◌≡◌, refl}
 use native.Mathlib.Omega.{arith}
 use lib.ListN.{length, get_or}
-use Rattle.wire.specs.Inner.Turns.{Own, Row}
+use Rattle.wire.specs.Inner.Turns.{Own}
 use Rattle.wire.proofs.Naming.{row_none, row_more, row_own}
 use Rattle.wire.proofs.name_child.Goals as goal
 

@@ -1,6 +1,5 @@
 -- Position 0: its sets are those of the node's own symbol. Assumes nothing.
 use Prim.Native.Nat.{ℕ, ◌<◌, zero-le}
-use mathlib.Core.Path.{◌≡◌}
 use mathlib.Core.List.{List}
 use native.Mathlib.Omega.{arith}
 use lib.ListN.{length, get_or}

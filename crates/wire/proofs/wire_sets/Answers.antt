@@ -2,16 +2,15 @@
 use Prim.Native.Nat.{ℕ, ◌+◌, ◌*◌, ◌≤◌, ◌<◌}
 use mathlib.Core.Path.{◌≡◌, refl, ap, ◌∙◌}
 use mathlib.Core.List.{List}
-use native.Mathlib.Nat.{add-zero}
 use native.Mathlib.Omega.{arith}
 use lib.ListN.{length, get_or}
 use Rattle.table.specs.Words.{defined, rule_of, head_at}
 use Rattle.table.specs.Same.{Has}
 use Rattle.table.proofs.Limits.{limits}
 use Rattle.wire.specs.Instances.{spot}
-use Rattle.wire.specs.Inner.Turns.{Held, Room, Sets, Partly, first_index}
+use Rattle.wire.specs.Inner.Turns.{Held, Sets, Partly, first_index}
 use Rattle.wire.proofs.Places.{number_in}
-use Rattle.wire.proofs.Rooms.{stay_refl, stay_set, stay_room}
+use Rattle.wire.proofs.Rooms.{stay_set, stay_room}
 use Rattle.wire.proofs.Reading.{op_known, fit_first, fit_second, first_read, second_read}
 use Rattle.wire.proofs.Turning.{few_children, shaped, slot_has, slot_below, slot_turn, skip_position}
 use Rattle.wire.proofs.wire_sets.Goals as goal

@@ -11,7 +11,7 @@ use Rattle.update_judge.specs.Inner.Cuts.{Aimed}
 use Rattle.update_judge.specs.Order.{fit_order}
 use Rattle.update_judge.proofs.Last.{last_waived, last_free}
 use Rattle.update_judge.proofs.Rows.{handed_cut, left_few, left_sound, splices}
-use Rattle.update_place.specs.Inner.Pieces.{spliced_by, Fitting}
+use Rattle.update_place.specs.Inner.Pieces.{spliced_by}
 use Rattle.update_place.specs.Inner.Splicing.{Splicing}
 use Rattle.update_place.proofs.Spliced.{splicing_fits, splicing_nodes}
 use Rattle.wire.specs.Inner.Turns.{Held}
