@@ -1,11 +1,13 @@
 -- From one state of a session to the next: bytes that are gathered, a line that is heard, rounds that are told; and turns in a row. Assumes nothing.
 use mathlib.Core.Path.{◌≡◌, refl, ap, sym, ◌∙◌, subst}
 use mathlib.Core.Bool.{Bool, true, false, true≢false}
-use mathlib.Core.List.{List, [], ◌++◌, append-nil, append_assoc}
+use mathlib.Core.List.{List, [], ◌∷◌, ◌++◌, append-nil, append_assoc}
 use Prim.Native.Nat.{ℕ, suc, ◌+◌, ◌-◌, ◌≤◌, ◌<◌}
 use native.Mathlib.Omega.{arith}
 use native.Mathlib.Nat.{lt_of_not-le}
-use lib.ListN.{length, take, drop, length-take, length-append, take-append-drop, drop_of_length-le}
+use types.Run.{OneOf, miss}
+use denote.Enum.Declared.{tag_of}
+use lib.ListN.{length, take, drop, length-take, length-drop, length-append, take-append-drop, drop_of_length-le}
 use lib.Seq.{sets, length-sets, length-take-le, take_all, take_at, drop_at, drop-drop}
 use Rattle.text_line.proofs.Out.{sets_append}
 use Rattle.update.specs.declared.Record.{Record}
@@ -22,6 +24,7 @@ use Rattle.session_owed.specs.Laws.{listens, Pays}
 use Rattle.session_owed.specs.declared.Awaited.{Awaited}
 use Rattle.session_owed.specs.declared.Awaited.TheVariants.{Table, Command, Naming, Nodes, Working, Stopped}
 use Rattle.session_owed.specs.declared.Told.{Told}
+use Rattle.session_owed.specs.contracts.Awaited as M
 use Rattle.session_owed.proofs.Owing.{line_pays}
 use Rattle.session_memory.specs.declared.State.{State}
 use Rattle.session_memory.specs.Suspended.{Suspended, suspended, table_of, line_of, owed_for, Wide, Fits}
@@ -135,7 +138,26 @@ module _ {d d' : Suspended} {piece : List ℕ} {from place printed : ℕ} {out o
     words_rest = nothing_behind;
   }
 
+pub fares_out : {d d' : Suspended} {piece : List ℕ} {from place printed : ℕ} {out out' : List ℕ} → Fares d piece from out 0 d' place out' printed → length out' ≡ length out
+fares_out {out = out} x = ap length x.shown ∙ length-sets out 0 x.text
+
 -- ---- what is waited for
+
+pub not_working : (awaited : Awaited) → OneOf (0 ∷ 1 ∷ 2 ∷ 3 ∷ 5 ∷ []) (tag_of M.the_type awaited) → listens awaited ≡ true
+not_working (Table x) k = refl
+not_working Command k = refl
+not_working (Naming count taken line) k = refl
+not_working (Nodes coming count taken line) k = refl
+not_working (Working turns) k = absurd (miss (0 ∷ 1 ∷ 2 ∷ 3 ∷ 5 ∷ []) 4 tt k)
+not_working Stopped k = refl
+
+pub not_silent : (awaited : Awaited) → listens awaited ≡ true → (awaited ≡ Stopped → ⊥) → silent awaited ≡ false
+not_silent (Table x) k h = refl
+not_silent Command k h = refl
+not_silent (Naming count taken line) k h = refl
+not_silent (Nodes coming count taken line) k h = refl
+not_silent (Working turns) k h = absurd (true≢false (sym k))
+not_silent Stopped k h = absurd (h refl)
 
 listening : (awaited : Awaited) → silent awaited ≡ false → listens awaited ≡ true
 listening (Table x) k = refl
@@ -193,6 +215,12 @@ module _ (t w ps os : List ℕ) (m : Memory) (s : State) (piece : List ℕ) (fro
         ∙ ap (λ (l : List ℕ). line_of here ++ l) (append_assoc (take (place - from) (drop from piece)) (drop place piece) u)
         ∙ sym (append_assoc (line_of here) (take (place - from) (drop from piece)) (drop place piece ++ u))
         ∙ ap (λ (l : List ℕ). l ++ (drop place piece ++ u)) (sym g.taken)
+
+    -- a line that is decided stands in the window
+    pub reaches : whole ≡ true → n ≤ length w'
+    reaches e =
+        let k : length (take n w') ≡ length (take s.begun w) + length (take (place - from) (drop from piece)) = ap length g.taken ∙ length-append (take s.begun w) (take (place - from) (drop from piece)) in
+        omega (arith, length-take n w', length-take s.begun w, length-take (place - from) (drop from piece), length-drop from piece, ready.fits.begun, ready.fits.wide.window_room, g.count, g.moved e)
 
     -- and the line is not decided yet
     abbrev begun_then : State

@@ -1,27 +1,41 @@
 -- What a line leads to, by the kind of its frame and by what is waited for. Assumes nothing.
 use mathlib.Core.Path.{◌≡◌, refl}
 use mathlib.Core.Bool.{Bool, true, false, cond}
-use mathlib.Core.List.{List}
-use Prim.Native.Nat.{ℕ, ◌+◌, ◌≤◌, ◌<◌}
+use mathlib.Core.List.{List, [], ◌∷◌}
+use Prim.Native.Nat.{ℕ, zero, suc, ◌+◌, ◌≤◌, ◌<◌}
+use native.Mathlib.Omega.{arith}
 use borrow.Author.Tests.{lt-ltb, le-ltb}
+use types.Run.{OneOf, miss}
+use denote.Enum.Declared.{tag_of}
 use lib.Dec.{ltb}
 use lib.ListN.{length, set, length-set}
-use Rattle.refusal.specs.declared.Refusal.{Refusal}
 use Rattle.update.specs.declared.Record.{Record}
 use Rattle.update.specs.Memories.{Memory}
 use Rattle.text_frame.specs.declared.Expected.{Expected}
+use Rattle.text_frame.specs.declared.Expected.TheVariants.{AtHeader, AtSymbol, AtProduction, AtEquation, Ended}
 use Rattle.text_frame.specs.declared.Frame.{Frame}
 use Rattle.text_frame.specs.declared.Frame.TheVariants.{Rule, Node, Point, Change, Dump, Refused, Over}
 use Rattle.text_frame.specs.declared.Change as change
+use Rattle.text_frame.specs.declared.Change.TheVariants.{Load, Replace, Corrections}
 use Rattle.text_table.specs.Read.{words_after, taken_at}
+use Rattle.text_frame.specs.contracts.Expected as X
+use Rattle.text_frame.specs.contracts.Frame as F
 use Rattle.session.specs.Session.{dump_told}
 use Rattle.tree.specs.Handed.{announced}
 use Rattle.session_owed.specs.Owed.{named_in}
-use Rattle.session_owed.specs.Hearing.{stopped, strange, waiting, called, ordered, changed, commanded, tabled, kept_at, point_kept, pointed, noded, hearing}
+use Rattle.session_owed.specs.Hearing.{stopped, strange, waiting, called, ordered, naming, changed, commanded, awaited_of, tabled, kept_at, point_kept, pointed, noded, hearing}
 use Rattle.session_owed.specs.declared.Coming.{Coming}
 use Rattle.session_owed.specs.declared.Coming.TheVariants as coming
 use Rattle.session_owed.specs.declared.Awaited.{Awaited}
 use Rattle.session_owed.specs.declared.Awaited.TheVariants.{Table, Command, Naming, Nodes, Working, Stopped}
+use Rattle.refusal.specs.declared.Refusal.{Refusal}
+
+pub not_ended : (x : Expected) → OneOf (0 ∷ 1 ∷ 2 ∷ 3 ∷ []) (tag_of X.the_type x) → Table x ≡ awaited_of x
+not_ended AtHeader k = refl
+not_ended (AtSymbol s) k = refl
+not_ended (AtProduction p) k = refl
+not_ended (AtEquation p q l) k = refl
+not_ended Ended k = absurd (miss (0 ∷ 1 ∷ 2 ∷ 3 ∷ []) 4 tt k)
 
 -- ---- a node kept, and one too many
 module _ (taken x : ℕ) (xs : List ℕ) where
@@ -38,6 +52,10 @@ module _ (taken x : ℕ) (xs : List ℕ) where
   pub kept_long : length (kept_at taken x xs) ≡ length xs
   kept_long = same_room (ltb taken 513)
 
+  -- as many have their place still
+  pub kept_room : (n : ℕ) (ys : List ℕ) → ys ≡ kept_at taken x xs → n ≤ length xs → n ≤ length ys
+  kept_room n ys e h = rw (e, kept_long) h
+
 -- ---- a point kept
 module _ (taken point count : ℕ) (os : List ℕ) where
   same_words : (b : Bool) (i j x y : ℕ) → length (cond b (set os i x) (set os j y)) ≡ length os
@@ -47,6 +65,9 @@ module _ (taken point count : ℕ) (os : List ℕ) where
   pub point_long : length (point_kept taken point count os) ≡ length os
   unfolding point_kept
   point_long = same_words (ltb taken 8) _ _ _ _
+
+  pub point_room : (n : ℕ) (ys : List ℕ) → ys ≡ point_kept taken point count os → n ≤ length os → n ≤ length ys
+  point_room n ys e h = rw (e, point_long) h
 
 -- ---- a frame by its tag
 module _ (t ps os : List ℕ) (m : Memory) (r : Record) where
@@ -90,6 +111,33 @@ module _ (t ps os : List ℕ) (m : Memory) (r : Record) where
   no_point count taken command Dump line k = refl
   no_point count taken command (Refused a b) line k = refl
   no_point count taken command Over line k = refl
+
+  -- ---- a command's first line
+  pub no_nodes : (o : Coming) (count line : ℕ) → count ≡ 0 → ordered t ps os m r o count line ≡ called t ps os m r o count line
+  no_nodes o zero line e = refl
+  no_nodes o (suc n) line e = absurd (omega arith)
+
+  pub some_nodes : (o : Coming) (count line : ℕ) → (count ≡ 0 → ⊥) → ordered t ps os m r o count line ≡ waiting t ps os m r (Nodes o count 0 line)
+  some_nodes o zero line f = absurd (f refl)
+  some_nodes o (suc n) line f = refl
+
+  pub no_points : (count line : ℕ) → count ≡ 0 → naming t ps os m r count line ≡ called t ps os m r (coming.Several 0) 0 line
+  no_points zero line e = refl
+  no_points (suc n) line e = absurd (omega arith)
+
+  pub some_points : (count line : ℕ) → (count ≡ 0 → ⊥) → naming t ps os m r count line ≡ waiting t ps os m r (Naming count 0 line)
+  some_points zero line f = absurd (f refl)
+  some_points (suc n) line f = refl
+
+  module _ (c : change.Change) (line : ℕ) where
+    pub a_load : (count : ℕ) → c ≡ Load count → changed t ps os m r c line ≡ ordered t ps os m r coming.Load count line
+    a_load count e = rw e
+
+    pub a_replacement : (point count : ℕ) → c ≡ Replace point count → changed t ps os m r c line ≡ ordered t ps os m r (coming.Replace point) count line
+    a_replacement point count e = rw e
+
+    pub a_row : (count : ℕ) → c ≡ Corrections count → changed t ps os m r c line ≡ naming t ps os m r count line
+    a_row count e = rw e
 
   module _ (f : Frame) (line : ℕ) where
     pub a_change : (c : change.Change) → f ≡ Change c → commanded t ps os m r f line ≡ changed t ps os m r c line

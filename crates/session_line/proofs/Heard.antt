@@ -1,10 +1,10 @@
 -- What a line's parts of work lead to, as the code leaves them. Assumes nothing.
-use mathlib.Core.Path.{◌≡◌, refl}
+use mathlib.Core.Path.{◌≡◌, refl, sym}
 use mathlib.Core.List.{List}
-use Prim.Native.Nat.{ℕ, ◌+◌, min}
+use Prim.Native.Nat.{ℕ, ◌+◌, ◌≤◌, min}
 use native.Mathlib.Omega.{arith}
-use lib.ListN.{take}
-use lib.Seq.{sets}
+use lib.ListN.{length, take}
+use lib.Seq.{sets, length-take-le}
 use Rattle.refusal.specs.Numbers.{number_of}
 use Rattle.refusal.specs.declared.Refusal.{Refusal}
 use Rattle.refusal.specs.declared.Verdict.TheVariants.{Sound, Refused}
@@ -12,20 +12,25 @@ use Rattle.text_frame.specs.Out.{refusal_text}
 use Rattle.update.specs.declared.Record.{Record}
 use Rattle.update.specs.Records.{empty_record}
 use Rattle.update.specs.Memories.{Memory}
+use Rattle.text_frame.specs.declared.Expected.{Expected}
 use Rattle.text_frame.proofs.Printed.{refusal_length}
 use Rattle.text_table.specs.declared.Taken.{Taken}
-use Rattle.text_table.specs.declared.Taken.TheVariants.{Stopped as StoppedAt}
+use Rattle.text_table.specs.declared.Taken.TheVariants.{Next, Stopped as StoppedAt}
 use Rattle.update_open.specs.declared.Begun.{Begun}
 use Rattle.update_open.specs.Lent.{begun}
 use Rattle.tree.specs.declared.Point.{Point}
 use Rattle.tree.specs.Handed.{announced}
 use Rattle.session_owed.specs.Owed.{points_in, named_in, order_call}
-use Rattle.session_owed.specs.Hearing.{Heard, turns_most, stopped, called, ordered, waiting, tabled, Hears}
+use Rattle.session_owed.specs.Hearing.{Heard, turns_most, stopped, called, ordered, waiting, awaited_of, tabled, Hears}
 use Rattle.session_owed.specs.declared.Coming.{Coming}
 use Rattle.session_owed.specs.declared.Coming.TheVariants.{Several}
 use Rattle.session_owed.specs.declared.Awaited.{Awaited}
 use Rattle.session_owed.specs.declared.Awaited.TheVariants.{Command, Working}
 use Rattle.session_owed.specs.declared.Told.{Told}
+
+-- where 513 nodes have a place the command's part of them has as many as it says
+pub taken_length : (xs : List ℕ) (count n : ℕ) → n ≡ min count 513 → 513 ≤ length xs → n ≡ length (take n xs)
+taken_length xs count n e h = sym (length-take-le n xs (omega arith))
 
 -- the same work under another description
 pub as_well : {h k : Heard} {told : Told} {printed : ℕ} {out out' words parts part_owns : List ℕ} {m : Memory} → h ≡ k
@@ -69,6 +74,10 @@ module _ (t ps os : List ℕ) (m : Memory) (r : Record) where
 
 -- ---- a frame of the table: u the words behind it, and w those that the code left
 module _ (u w ps os : List ℕ) (m : Memory) (printed : ℕ) (out : List ℕ) (taken : Taken) where
+  pub table_next : (awaited : Awaited) (r : Record) (y : Expected) → taken ≡ Next y → w ≡ u → awaited ≡ awaited_of y → r ≡ empty_record
+      → Hears (tabled u ps os m taken) (record { awaited = awaited; «record» = r; printed = printed }) printed out out w ps os m
+  table_next awaited r y e f g h = rw (e, f, g, h) (silent u ps os m empty_record (awaited_of y) printed out)
+
   pub table_stopped : (out' : List ℕ) (told : Told) (r : Record) (q : Refusal) (line : ℕ) → taken ≡ StoppedAt q line → w ≡ u → r ≡ empty_record
       → Hears (stopped w ps os m r (number_of q) line) told printed out out' w ps os m → Hears (tabled u ps os m taken) told printed out out' w ps os m
   table_stopped out' told r q line e f h x = rw (e, ← f, ← h) x

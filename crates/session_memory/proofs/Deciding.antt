@@ -3,8 +3,8 @@ use mathlib.Core.Path.{◌≡◌, refl, ap, sym}
 use mathlib.Core.Bool.{Bool, true, false, not}
 use Prim.Native.Nat.{ℕ, ◌≤◌}
 use native.Mathlib.Omega.{arith}
-use borrow.Author.Tests.{ltb-false, le-ltb, not-true}
-use lib.Dec.{ltb}
+use borrow.Author.Tests.{ltb-false, eqb-true, le-ltb, eq-eqb, not-true}
+use lib.Dec.{ltb, eqb}
 use Rattle.session_memory.specs.Suspended.{Tests}
 
 module _ {P : Type 0} where
@@ -13,6 +13,9 @@ module _ {P : Type 0} where
 
   pub tests_no : (P → ⊥) → Tests false P
   tests_no n = record { yes = λ e. absurd (let z : ◌≡◌ {A = ℕ} 0 1 = cc in omega arith); no = λ p. absurd (n p) }
+
+  pub tests_equal : (a b : ℕ) → (a ≡ b → P) → (P → a ≡ b) → Tests (eqb a b) P
+  tests_equal a b f g = record { yes = λ e. f (eqb-true a b e); no = λ p. eq-eqb a b (g p) }
 
   pub tests_least : (a b : ℕ) → (b ≤ a → P) → (P → b ≤ a) → Tests (not (ltb a b)) P
   tests_least a b f g = record { yes = λ e. f (ltb-false a b (not-true (ltb a b) e)); no = λ p. ap not (le-ltb a b (g p)) }

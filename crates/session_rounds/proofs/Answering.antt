@@ -1,19 +1,32 @@
 -- A step's answer and its line. Assumes nothing.
-use mathlib.Core.Path.{◌≡◌, ap, ◌∙◌}
+use mathlib.Core.Path.{◌≡◌, ap, ◌∙◌, subst}
 use mathlib.Core.Bool.{Bool, cond}
 use mathlib.Core.List.{List, [], ◌∷◌}
-use Prim.Native.Nat.{ℕ, ◌+◌}
+use Prim.Native.Nat.{ℕ, ◌+◌, ◌<◌, ◌^◌}
 use lib.ListN.{length}
 use lib.Seq.{sets}
 use Rattle.text_line.specs.Text.{byte, two, three, four}
 use Rattle.text_line.proofs.Fields.{line_length}
 use Rattle.text_frame.specs.Out.{round_text, done_text}
+use Rattle.refusal.specs.declared.Refusal.{Refusal}
 use Rattle.update.specs.declared.Answer.{Answer}
-use Rattle.update.specs.declared.Answer.TheVariants.{Round, Done}
+use Rattle.update.specs.declared.Answer.TheVariants.{Round, Done, Refused}
 use Rattle.update.specs.Steps.{Outcome, round, done}
 use Rattle.update.specs.Calls.{answer_says}
 use Rattle.session.specs.Session.{outcome_text}
-use Rattle.session_rounds.specs.Telling.{AnswerPut}
+use Rattle.session_rounds.specs.Telling.{Printable, AnswerPut}
+
+-- ---- the numbers of each answer fit
+
+module _ {a : Answer} (p : Printable (answer_says a)) where
+  pub round_fits : {x y z : ℕ} {t : Bool} → a ≡ Round x y z t → (x < 2 ^ 16) × (y < 2 ^ 24) × (z < 2 ^ 16)
+  round_fits e = subst (λ (b : Answer). Printable (answer_says b)) e p
+
+  pub done_fits : {x y z : ℕ} → a ≡ Done x y z → (x < 2 ^ 16) × (y < 2 ^ 32) × (z < 2 ^ 16)
+  done_fits e = subst (λ (b : Answer). Printable (answer_says b)) e p
+
+  pub not_refused : {q : Refusal} → a ≡ Refused q → ⊥
+  not_refused e = subst (λ (b : Answer). Printable (answer_says b)) e p
 
 -- ---- a line has 19 bytes
 

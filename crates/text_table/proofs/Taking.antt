@@ -1,10 +1,12 @@
 -- One frame taken: what the words become, and what is answered. Assumes nothing.
 use mathlib.Core.Path.{◌≡◌, refl, ap, sym, ◌∙◌}
 use mathlib.Core.Bool.{true, false}
-use mathlib.Core.List.{List}
+use mathlib.Core.List.{List, [], ◌∷◌}
 use mathlib.Core.Logic.{◌⊎◌, inl, inr, ⊎_elim}
 use Prim.Native.Nat.{ℕ, zero, suc, ◌+◌, ◌*◌, ◌≤◌, ◌<◌}
 use native.Mathlib.Omega.{arith}
+use types.Run.{OneOf, miss}
+use denote.Enum.Declared.{tag_of}
 use borrow.Author.Tests.{ne_eqb}
 use lib.Dec.{eqb, lit<, lit≤}
 use lib.ListN.{get_or, set}
@@ -32,6 +34,18 @@ use Rattle.text_table.specs.declared.Taken.TheVariants.{Next, Stopped}
 use Rattle.refusal.proofs.Distinct.{number_low}
 use Rattle.text_tree.proofs.Numbers.{by_number}
 use Rattle.text_frame.proofs.Exactly.{rule_type_lem, change_type_lem}
+use Rattle.text_frame.specs.contracts.Frame as F
+use Rattle.text_frame.specs.contracts.Rule as R
+
+-- a rule of another type, by its tag
+rule_tag : (r : rule.Rule) → rule_type r ≡ suc (tag_of R.the_type r)
+rule_tag (Header a b) = refl
+rule_tag (Symbol a b) = refl
+rule_tag (Production a b c) = refl
+rule_tag (Equation a b c d) = refl
+
+pub other_rule : (r : rule.Rule) (ns : List ℕ) (n : ℕ) → (OneOf ns n → ⊥) → OneOf ns (tag_of R.the_type r) → eqb (rule_type r) (suc n) ≡ false
+other_rule r ns n h k = ne_eqb (rule_type r) (suc n) (λ e. let d : tag_of R.the_type r ≡ n = omega (arith, rule_tag r) in h (rw d at k))
 
 -- a rule of another type
 pub no_header : (r : rule.Rule) → ((a b : ℕ) → r ≡ Header a b → ⊥) → eqb (rule_type r) 1 ≡ false
