@@ -19,7 +19,6 @@ use Rattle.text_frame.specs.declared.Change as change
 use Rattle.text_frame.specs.declared.Change.TheVariants.{Load, Replace, Corrections}
 use Rattle.text_table.specs.Read.{words_after, taken_at}
 use Rattle.text_frame.specs.contracts.Expected as X
-use Rattle.text_frame.specs.contracts.Frame as F
 use Rattle.session.specs.Session.{dump_told}
 use Rattle.tree.specs.Handed.{announced}
 use Rattle.session_owed.specs.Owed.{named_in}

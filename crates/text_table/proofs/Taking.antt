@@ -1,11 +1,11 @@
 -- One frame taken: what the words become, and what is answered. Assumes nothing.
 use mathlib.Core.Path.{◌≡◌, refl, ap, sym, ◌∙◌}
 use mathlib.Core.Bool.{true, false}
-use mathlib.Core.List.{List, [], ◌∷◌}
+use mathlib.Core.List.{List}
 use mathlib.Core.Logic.{◌⊎◌, inl, inr, ⊎_elim}
 use Prim.Native.Nat.{ℕ, zero, suc, ◌+◌, ◌*◌, ◌≤◌, ◌<◌}
 use native.Mathlib.Omega.{arith}
-use types.Run.{OneOf, miss}
+use types.Run.{OneOf}
 use denote.Enum.Declared.{tag_of}
 use borrow.Author.Tests.{ne_eqb}
 use lib.Dec.{eqb, lit<, lit≤}
@@ -34,7 +34,6 @@ use Rattle.text_table.specs.declared.Taken.TheVariants.{Next, Stopped}
 use Rattle.refusal.proofs.Distinct.{number_low}
 use Rattle.text_tree.proofs.Numbers.{by_number}
 use Rattle.text_frame.proofs.Exactly.{rule_type_lem, change_type_lem}
-use Rattle.text_frame.specs.contracts.Frame as F
 use Rattle.text_frame.specs.contracts.Rule as R
 
 -- a rule of another type, by its tag
