@@ -8,6 +8,7 @@ ghost use Rattle.update_round.specs.Inner.Says.{RoundSays};
 use climb::{empty_circle, lone, round};
 
 // Before round 1 a circle that isn't lone becomes empty.
+#[tactic(auto, using(crate::proofs::Rounding::ready_later, crate::proofs::Rounding::ready_alone, crate::proofs::Rounding::ready_first))]
 fn make_ready<'a>(
     alone: bool,
     k: u64,
