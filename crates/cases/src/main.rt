@@ -1,7 +1,7 @@
 // Stored sessions, each from the file that an argument names: its name, and then all that the session prints.
 #![tactic(auto)]
 
-use std::env::Env;
+use std::env::{Env, FillError};
 use std::fs::Files;
 use std::{fs, io};
 
@@ -22,15 +22,22 @@ fn tell(rt: &(impl Files + Print + Eprint), path: &str) -> bool {
     }
 }
 
-// The session of argument i; false too where there is none.
+// The session of argument i; false too where there is none, or where it can't be the name of a file.
 fn tell_argument(rt: &(impl Env + Files + Print + Eprint), i: usize) -> bool {
     let mut path = [0u8; 4096];
-    let Ok(n) = rt.arg(i, &mut path) else {
-        return false;
-    };
-    match str::from_utf8(&path[..n]) {
-        Ok(path) => tell(rt, path),
-        Err(_) => false,
+    match rt.arg(i, &mut path) {
+        Ok(n) => match str::from_utf8(&path[..n]) {
+            Ok(path) => tell(rt, path),
+            Err(_) => {
+                let _ = eprintln!(rt; "argument {i} is not UTF-8");
+                false
+            }
+        },
+        Err(FillError::TooLong) => {
+            let _ = eprintln!(rt; "argument {i} is longer than 4096 bytes");
+            false
+        }
+        Err(FillError::NotPresent) => false,
     }
 }
 
