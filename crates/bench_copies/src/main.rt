@@ -8,7 +8,8 @@ ghost use Rattle.std.specs.Prelude.{◌≤◌, length};
 use std::env::Env;
 use std::io;
 use std::io::{Cursor, Read, Stdout};
-use text::{ReadTable, ReadTree, Written, read_table, read_tree, write_table, write_tree};
+use refusal::Refusal;
+use text::{ReadTable, ReadTree, read_table, read_tree, write_table, write_tree};
 
 // How far: 1 to 3, or 0 for a word that it doesn't know.
 fn asked(rt: &impl Env) -> u8 {
@@ -39,15 +40,15 @@ fn tell(output: Stdout, count: usize) -> io::Result<()> {
 }
 
 // Prints what was written, or the number that refused it.
-fn print(output: Stdout, written: Written, out: &[u8]) -> io::Result<()> {
+fn print(output: Stdout, written: Result<usize, Refusal>, out: &[u8]) -> io::Result<()> {
     match written {
-        Written::Length(n) => {
+        Ok(n) => {
             if n <= out.len() {
                 return output.write_all(&out[..n]);
             }
             Ok(())
         }
-        Written::Refused(r) => tell(output, refusal::number(r) as usize),
+        Err(r) => tell(output, refusal::number(r) as usize),
     }
 }
 
@@ -76,10 +77,10 @@ fn copy(output: Stdout, text: &[u8], stage: u8) -> io::Result<()> {
     let mut nodes = [0u8; 512];
     let mut owns = [0u64; 512];
     let mut out = [0u8; 65_536];
-    let ReadTable::Read { place, line } = read_table(text, 0, 1, &mut table) else {
+    let Ok(ReadTable { place, line }) = read_table(text, 0, 1, &mut table) else {
         return println!(output; "there is no table");
     };
-    let ReadTree::Read { count, .. } = read_tree(&table, text, place, line, &mut nodes, &mut owns)
+    let Ok(ReadTree { count, .. }) = read_tree(&table, text, place, line, &mut nodes, &mut owns)
     else {
         return println!(output; "there is no tree");
     };

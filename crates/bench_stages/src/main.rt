@@ -8,7 +8,6 @@ ghost use Rattle.std.specs.Prelude.{◌<◌, ◌≤◌, length};
 ghost use Rattle.wire.specs.Inner.Turns.{Held};
 
 use circles_rank::rank_circles;
-use refusal::Verdict;
 use std::env::Env;
 use std::io;
 use std::io::{Cursor, Read, Stdout};
@@ -119,8 +118,8 @@ fn judge<'a>(
     stage: u8,
 ) -> io::Result<()> {
     match judge_tree(table, nodes, owns) {
-        Verdict::Sound => work(output, table, nodes, stage),
-        Verdict::Refused(_) => println!(output; "the tree is refused"),
+        Ok(()) => work(output, table, nodes, stage),
+        Err(_) => println!(output; "the tree is refused"),
     }
 }
 
@@ -135,7 +134,7 @@ fn plant(
     owns: &mut [u64],
     stage: u8,
 ) -> io::Result<()> {
-    let ReadTree::Read { count, .. } = read_tree(table, text, place, line, nodes, owns) else {
+    let Ok(ReadTree { count, .. }) = read_tree(table, text, place, line, nodes, owns) else {
         return println!(output; "there is no tree");
     };
     if nodes.len() < count {
@@ -151,7 +150,7 @@ fn answer(output: Stdout, text: &[u8], stage: u8) -> io::Result<()> {
     let mut table = [0u64; 2657];
     let mut nodes = [0u8; 512];
     let mut owns = [0u64; 512];
-    let ReadTable::Read { place, line } = read_table(text, 0, 1, &mut table) else {
+    let Ok(ReadTable { place, line }) = read_table(text, 0, 1, &mut table) else {
         return println!(output; "there is no table");
     };
     plant(

@@ -67,7 +67,7 @@ fn replace_points(
     let new = nodes_of(nodes, row.from, row.to);
     let own = owns_of(owns, row.own, ALL);
     let d = engine::replace_points(table, r, points, new, own, held, held_owns, sets, earlier);
-    tell_begun(output, b"replace_points: ", d)
+    tell_begun(output, b"replace_points: ", r, d)
 }
 
 // A load or a replacement, and the record that it leaves.
@@ -88,18 +88,18 @@ fn change(
             let tree = nodes_of(nodes, from, to);
             let own = owns_of(owns, from, upto);
             let d = engine::load(table, r, tree, own, held, held_owns, sets, earlier);
-            tell_begun(output, b"load: ", d)
+            tell_begun(output, b"load: ", r, d)
         }
         Change::Short => {
             let mut few = [DUST; 4095];
             let d = engine::load(table, r, nodes, owns, held, held_owns, &mut few, earlier);
-            tell_begun(output, b"load: ", d)
+            tell_begun(output, b"load: ", r, d)
         }
         Change::Replace(point, from, to, own) => {
             let part = nodes_of(nodes, from, to);
             let own = owns_of(owns, own, ALL);
             let d = engine::replace(table, r, point, part, own, held, held_owns, sets, earlier);
-            tell_begun(output, b"replace: ", d)
+            tell_begun(output, b"replace: ", r, d)
         }
         Change::ReplacePoints(row) => {
             replace_points(
@@ -121,17 +121,19 @@ fn work<'a>(
     earlier: &'a [u64; 4096],
 ) -> Record {
     match work {
-        Work::Step => tell_stepped(
-            output,
-            engine::step(table, r, held, held_owns, sets, earlier),
-        ),
+        Work::Step => {
+            let d = engine::step(table, r, held, held_owns, sets, earlier);
+            tell_stepped(output, r, d)
+        }
         Work::Run(budget) => {
-            let d = run_lent(table, r, held, held_owns, sets, earlier, budget);
-            tell_ran(output, b"run ", budget, d)
+            let (answer, next) = run_lent(table, r, held, held_owns, sets, earlier, budget);
+            tell_ran(output, b"run ", budget, answer, next)
         }
         Work::RunRecord(budget) => {
-            let d = engine::run_record(table, r, held, held_owns, sets, earlier, budget);
-            tell_ran(output, b"run_record ", budget, d)
+            match engine::run_record(table, r, held, held_owns, sets, earlier, budget) {
+                Ok(d) => tell_ran(output, b"run_record ", budget, Ok(d.answer), d.record),
+                Err(e) => tell_ran(output, b"run_record ", budget, Err(e), r),
+            }
         }
     }
 }

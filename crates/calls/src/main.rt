@@ -60,10 +60,10 @@ fn tell_text(output: Stdout, text: &[u8], point: usize, rows: bool) {
     let mut table = [0u64; 2657];
     let mut nodes = [3u8; ALL];
     let mut owns = [0u64; ALL];
-    let ReadTable::Read { place, line } = read_table(text, 0, 1, &mut table) else {
+    let Ok(ReadTable { place, line }) = read_table(text, 0, 1, &mut table) else {
         return;
     };
-    let ReadTree::Read { count, .. } = read_tree(&table, text, place, line, &mut nodes, &mut owns)
+    let Ok(ReadTree { count, .. }) = read_tree(&table, text, place, line, &mut nodes, &mut owns)
     else {
         return;
     };

@@ -1,7 +1,8 @@
 // Readings of the held tree, with no update open.
 use crate::mark::{FIRST, mix};
 use crate::tell::{say, say_set, tell_reading};
-use engine::{Reading, Record};
+use engine::Record;
+use refusal::Refusal;
 use std::io::Stdout;
 
 pub fn read(
@@ -19,10 +20,10 @@ pub fn read(
 }
 
 // The set read; a refusal counts as all reasons at once, which no set of these days has.
-fn set_of(reading: Reading) -> u64 {
+fn set_of(reading: Result<u64, Refusal>) -> u64 {
     match reading {
-        Reading::Set(set) => set,
-        Reading::Refused(_) => 0xffff_ffff_ffff_ffff,
+        Ok(set) => set,
+        Err(_) => u64::MAX,
     }
 }
 

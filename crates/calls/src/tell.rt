@@ -1,6 +1,6 @@
 // What a call answers, and the record that it leaves, as a line.
-use engine::{Answer, Begun, Open, Point, Ran, Reading, Record, Run, Stepped};
-use refusal::{Refusal, Verdict, number};
+use engine::{Answer, Open, Point, Record, Run, Stepped};
+use refusal::{Refusal, number};
 use std::io::Stdout;
 
 pub fn wide(x: u8) -> u64 {
@@ -109,23 +109,29 @@ fn tell_record(output: Stdout, record: Record) {
     say(output, b"\n");
 }
 
-// A load or a replacement, by its name: the record that it leaves goes on.
-pub fn tell_begun(output: Stdout, name: &[u8], begun: Begun) -> Record {
-    let verdict = begun.verdict;
-    let next = begun.record;
+// A load or a replacement, by its name: the record that it leaves goes on, and where it is refused the one that it was given.
+pub fn tell_begun(
+    output: Stdout,
+    name: &[u8],
+    record: Record,
+    begun: Result<Record, Refusal>,
+) -> Record {
     say(output, name);
-    match verdict {
-        Verdict::Sound => say(output, b"opened"),
-        Verdict::Refused(r) => tell_refusal(output, r),
-    }
+    let next = match begun {
+        Ok(next) => {
+            say(output, b"opened");
+            next
+        }
+        Err(r) => {
+            tell_refusal(output, r);
+            record
+        }
+    };
     tell_record(output, next);
     next
 }
 
-pub fn tell_stepped(output: Stdout, stepped: Stepped) -> Record {
-    let answer = stepped.answer;
-    let next = stepped.record;
-    say(output, b"step: ");
+fn tell_answer(output: Stdout, answer: Answer) {
     match answer {
         Answer::Round {
             least,
@@ -141,29 +147,51 @@ pub fn tell_stepped(output: Stdout, stepped: Stepped) -> Record {
             say(output, b"done");
             tell_done(output, circles, evaluations, changed);
         }
-        Answer::Refused(r) => tell_refusal(output, r),
     }
+}
+
+// A step likewise.
+pub fn tell_stepped(
+    output: Stdout,
+    record: Record,
+    stepped: Result<Stepped, Refusal>,
+) -> Record {
+    say(output, b"step: ");
+    let next = match stepped {
+        Ok(d) => {
+            tell_answer(output, d.answer);
+            d.record
+        }
+        Err(r) => {
+            tell_refusal(output, r);
+            record
+        }
+    };
     tell_record(output, next);
     next
 }
 
-// A run, by its name and its budget.
-pub fn tell_ran(output: Stdout, name: &[u8], budget: u64, ran: Ran) -> Record {
-    let answer = ran.answer;
-    let next = ran.record;
+// A run, by its name and its budget, with the record that it left.
+pub fn tell_ran(
+    output: Stdout,
+    name: &[u8],
+    budget: u64,
+    answer: Result<Run, Refusal>,
+    next: Record,
+) -> Record {
     say_count(output, name, budget);
     match answer {
-        Run::Paused { rounds } => say_count(output, b": paused, rounds ", rounds),
-        Run::Finished {
+        Ok(Run::Paused { rounds }) => say_count(output, b": paused, rounds ", rounds),
+        Ok(Run::Finished {
             rounds,
             circles,
             evaluations,
             changed,
-        } => {
+        }) => {
             say_count(output, b": finished, rounds ", rounds);
             tell_done(output, circles, evaluations, changed);
         }
-        Run::Refused(r) => {
+        Err(r) => {
             say(output, b": ");
             tell_refusal(output, r);
         }
@@ -172,12 +200,12 @@ pub fn tell_ran(output: Stdout, name: &[u8], budget: u64, ran: Ran) -> Record {
     next
 }
 
-pub fn tell_reading(output: Stdout, instance: usize, reading: Reading) {
+pub fn tell_reading(output: Stdout, instance: usize, reading: Result<u64, Refusal>) {
     say_count(output, b"read ", instance as u64);
     say(output, b": ");
     match reading {
-        Reading::Set(set) => say_set(output, b"", set),
-        Reading::Refused(r) => tell_refusal(output, r),
+        Ok(set) => say_set(output, b"", set),
+        Err(r) => tell_refusal(output, r),
     }
     say(output, b"\n");
 }

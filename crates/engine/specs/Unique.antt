@@ -1,6 +1,6 @@
 -- Of all that a call could answer and leave, refused calls too, no two fit its statement. Behind each `Only` stands the relation that the call's contract cites, by its
 -- name. Assumes nothing.
-use Rattle.std.specs.Prelude.{List, ℕ}
+use Rattle.std.specs.Prelude.{List, ℕ, Result}
 use Rattle.refusal.specs.Numbers.{NumberSays}
 use Rattle.refusal.specs.Only.{Only, After}
 use Rattle.refusal.specs.declared.Refusal.{Refusal}
@@ -15,8 +15,8 @@ use Rattle.update.specs.Memories.{lent, Memory}
 use Rattle.update.specs.Records.{EmptySays}
 use Rattle.update_step.specs.declared.step.Stepped.{Stepped}
 use Rattle.update_step.specs.declared.run.Ran.{Ran}
-use Rattle.update_open.specs.declared.Begun.{Begun}
-use Rattle.engine.specs.Lent.{LoadLeaves, PointsLeave, ReplaceLeaves, StepLeaves, RunLeaves, ReadSays}
+use Rattle.update.specs.declared.Run.{Run}
+use Rattle.engine.specs.Lent.{LoadLeaves, PointsLeave, ReplaceLeaves, StepLeaves, RunLeaves, RanLeaves, ReadSays}
 
 -- ---- 23.9: the calls that leave nothing but their answer
 
@@ -31,16 +31,17 @@ pub record AnswersOne : Type 0 where
 
 -- ---- 23.9: the engine's calls, of any table, memory and record: answer, record and what is found in the buffers that the call may write
 
--- 23.9: `load`, `replace` and `replace_points` may write all four (`Begun` is the answer with the record); `step` and `run` the sets (`Stepped` and
--- `Ran` likewise; a run over a lent record and one by value promise the same); `read` none
+-- 23.9: `load`, `replace` and `replace_points` may write all four; `step`, `run_record` and `run` the sets, and `run` the record that it is lent; `read` none.
+-- Where nothing is refused the record to go on with is in the answer of all but `run`
 pub record LeavesOne (t held owns sets earlier : List ℕ) (r : Record) : Type 0 where
-  pub load : (ns new_owns : List ℕ) → Only (λ (x : After Begun Memory). LoadLeaves t (lent held owns sets earlier) r ns new_owns x.answer x.found)
+  pub load : (ns new_owns : List ℕ) → Only (λ (x : After (Result Record Refusal) Memory). LoadLeaves t (lent held owns sets earlier) r ns new_owns x.answer x.found)
   pub replace : (point : ℕ) (ns new_owns : List ℕ)
-      → Only (λ (x : After Begun Memory). ReplaceLeaves t (lent held owns sets earlier) r point ns new_owns x.answer x.found)
+      → Only (λ (x : After (Result Record Refusal) Memory). ReplaceLeaves t (lent held owns sets earlier) r point ns new_owns x.answer x.found)
   pub replace_points : (points : Places) (ns new_owns : List ℕ)
-      → Only (λ (x : After Begun Memory). PointsLeave t (lent held owns sets earlier) r points ns new_owns x.answer x.found)
-  pub step : Only (λ (x : After Stepped (List ℕ)). StepLeaves t held owns sets earlier r x.answer.answer x.answer.«record» x.found)
-  pub run : (budget : ℕ) → Only (λ (x : After Ran (List ℕ)). RunLeaves t held owns sets earlier r budget x.answer.answer x.answer.«record» x.found)
+      → Only (λ (x : After (Result Record Refusal) Memory). PointsLeave t (lent held owns sets earlier) r points ns new_owns x.answer x.found)
+  pub step : Only (λ (x : After (Result Stepped Refusal) (List ℕ)). StepLeaves t held owns sets earlier r x.answer x.found)
+  pub run_record : (budget : ℕ) → Only (λ (x : After (Result Ran Refusal) (List ℕ)). RanLeaves t held owns sets earlier r budget x.answer x.found)
+  pub run : (budget : ℕ) → Only (λ (x : After (Result Run Refusal) (After Record (List ℕ))). RunLeaves t held owns sets earlier r budget x.answer x.found.answer x.found.found)
   pub read : (x : ℕ) → Only (ReadSays t (lent held owns sets earlier) r x)
 
 -- 23.9: whatever is lent

@@ -1,10 +1,11 @@
 // Step and run: the rounds of an open update.
-ghost use Rattle.engine.specs.Lent.{StepLeaves, RunLeaves};
+ghost use Rattle.std.specs.Prelude.{Ok};
+ghost use Rattle.engine.specs.Lent.{StepLeaves, RunLeaves, RanLeaves};
 ghost use Rattle.update_judge.specs.Order.{Going};
 ghost use Rattle.update.specs.Memories.{lent};
 
-use refusal::Verdict;
-use update::{Answer, Record, Run};
+use refusal::Refusal;
+use update::{Record, Run};
 use update_judge::judge_step;
 use update_step::{Ran, Stepped, run_in, step_in};
 use wire_plan::prepare;
@@ -19,7 +20,7 @@ fn step_going<'a>(
     earlier: &'a [u64],
 ) -> Stepped
     requires { Going table.now (lent held.now held_owns.now sets.old earlier.now) «record» }
-    ensures { StepLeaves table.now held.now held_owns.now sets.old earlier.now «record» result.answer result.record sets.new }
+    ensures { StepLeaves table.now held.now held_owns.now sets.old earlier.now «record» (Ok result) sets.new }
 {
     let nodes = record.nodes;
     let mut a = [0u16; 4096];
@@ -70,16 +71,11 @@ pub fn step<'a>(
     held_owns: &'a [u64],
     sets: &mut [u64],
     earlier: &'a [u64],
-) -> Stepped
-    ensures { StepLeaves table.now held.now held_owns.now sets.old earlier.now «record» result.answer result.record sets.new }
+) -> Result<Stepped, Refusal>
+    ensures { StepLeaves table.now held.now held_owns.now sets.old earlier.now «record» result sets.new }
 {
-    match judge_step(table, record, held, held_owns, &*sets, earlier) {
-        Verdict::Sound => step_going(table, record, held, held_owns, sets, earlier),
-        Verdict::Refused(r) => Stepped {
-            answer: Answer::Refused(r),
-            record: record,
-        },
-    }
+    judge_step(table, record, held, held_owns, sets, earlier)?;
+    Ok(step_going(table, record, held, held_owns, sets, earlier))
 }
 
 // A run where nothing refuses it.
@@ -93,7 +89,7 @@ fn run_going<'a>(
     budget: u64,
 ) -> Ran
     requires { Going table.now (lent held.now held_owns.now sets.old earlier.now) «record» }
-    ensures { RunLeaves table.now held.now held_owns.now sets.old earlier.now «record» budget result.answer result.record sets.new }
+    ensures { RanLeaves table.now held.now held_owns.now sets.old earlier.now «record» budget (Ok result) sets.new }
 {
     let nodes = record.nodes;
     let mut a = [0u16; 4096];
@@ -146,16 +142,13 @@ pub fn run_record<'a>(
     sets: &mut [u64],
     earlier: &'a [u64],
     budget: u64,
-) -> Ran
-    ensures { RunLeaves table.now held.now held_owns.now sets.old earlier.now «record» budget result.answer result.record sets.new }
+) -> Result<Ran, Refusal>
+    ensures { RanLeaves table.now held.now held_owns.now sets.old earlier.now «record» budget result sets.new }
 {
-    match judge_step(table, record, held, held_owns, &*sets, earlier) {
-        Verdict::Sound => run_going(table, record, held, held_owns, sets, earlier, budget),
-        Verdict::Refused(r) => Ran {
-            answer: Run::Refused(r),
-            record: record,
-        },
-    }
+    judge_step(table, record, held, held_owns, sets, earlier)?;
+    Ok(run_going(
+        table, record, held, held_owns, sets, earlier, budget,
+    ))
 }
 
 // The same run over a record that the caller lends, which is changed in place.
@@ -167,11 +160,11 @@ pub fn run<'a>(
     sets: &mut [u64],
     earlier: &'a [u64],
     budget: u64,
-) -> Run
+) -> Result<Run, Refusal>
     ensures { RunLeaves table.now held.now held_owns.now sets.old earlier.now «record».old budget result «record».new sets.new }
 {
     let r = *record;
-    let d = run_record(table, r, held, held_owns, sets, earlier, budget);
+    let d = run_record(table, r, held, held_owns, sets, earlier, budget)?;
     *record = d.record;
-    d.answer
+    Ok(d.answer)
 }

@@ -1,9 +1,7 @@
 -- Chapter 14: the number of each refusal. Assumes nothing.
-use Rattle.std.specs.Prelude.{◌≡◌, ℕ}
+use Rattle.std.specs.Prelude.{◌≡◌, ℕ, Result, Ok, Err}
 use Rattle.refusal.specs.declared.Refusal.{Refusal}
 use Rattle.refusal.specs.declared.Refusal.TheVariants.{Count, Symbol, Start, Form, Argument, Production, Shape, Size, Point, Busy, Fields, Undeclared, Line, Frame, Buffer, Absent, Idle, Waiver, Points, Overlap}
-use Rattle.refusal.specs.declared.Verdict.{Verdict}
-use Rattle.refusal.specs.declared.Verdict.TheVariants.{Sound, Refused}
 
 abbrev pub number_of : Refusal → ℕ
 number_of Count = 1
@@ -27,10 +25,10 @@ number_of Waiver = 21
 number_of Points = 22
 number_of Overlap = 23
 
--- 23.10: a verdict as a number, 0 where nothing is refused
-abbrev pub verdict_of : Verdict → ℕ
-verdict_of Sound = 0
-verdict_of (Refused r) = number_of r
+-- 23.10: the number of what a call answers, 0 where nothing is refused
+abbrev pub verdict_of : {A : Type 0} → Result A Refusal → ℕ
+verdict_of (Ok a) = 0
+verdict_of (Err r) = number_of r
 
 -- ---- what `number` promises: of a refusal, its number
 abbrev pub NumberSays : Refusal → ℕ → Type 0

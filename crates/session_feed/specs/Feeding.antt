@@ -1,8 +1,7 @@
 -- A piece of a session's text: what is taken of it, and what is printed. Assumes nothing.
-use Rattle.std.specs.Prelude.{◌≡◌, Bool, true, false, List, ◌++◌, ℕ, ◌≤◌, ◌<◌, length, drop}
+use Rattle.std.specs.Prelude.{◌≡◌, Bool, true, false, List, ◌++◌, ℕ, ◌≤◌, ◌<◌, length, drop, Result, Ok, Err}
 use Rattle.std.proofs.lemmas.List.Edits.{sets}
 use Rattle.refusal.specs.declared.Refusal.{Refusal}
-use Rattle.refusal.specs.declared.Verdict.TheVariants.{Sound, Refused}
 use Rattle.refusal.specs.Numbers.{number_of}
 use Rattle.session_owed.specs.Laws.{listens}
 use Rattle.session_owed.specs.declared.Awaited.TheVariants.{Stopped}
@@ -36,13 +35,9 @@ pub record Feeds (d : Suspended) (piece : List ℕ) (from : ℕ) (out : List ℕ
 
 -- 20.7: an answer
 abbrev pub fed_to : State → ℕ → ℕ → Bool → Fed
-fed_to s place printed more = record { verdict = Sound; state = s; place = place; printed = printed; more = more }
-
--- 20.9: and one that refuses: the state and the place are those that were given, and nothing is printed
-abbrev pub fed_nothing : State → ℕ → Refusal → Fed
-fed_nothing s from q = record { verdict = Refused q; state = s; place = from; printed = 0; more = false }
+fed_to s place printed more = record { state = s; place = place; printed = printed; more = more }
 
 -- 20.6, 20.7, 20.9: the answer for any state and any memory: where it is no session's, that is refused by its number, and nothing is changed
-pub data FeedSays (d : Suspended) (piece : List ℕ) (from : ℕ) (out : List ℕ) (d' : State → Suspended) (out' : List ℕ) : Fed → Type 0 where
-  takes : {s : State} {place printed : ℕ} {more : Bool} → state_refusal d out ≡ 0 → Fits d out → Feeds d piece from out (d' s) place printed more out' → FeedSays d piece from out d' out' (fed_to s place printed more)
-  refuses : {q : Refusal} → state_refusal d out ≡ number_of q → d' d.state ≡ d → out' ≡ out → FeedSays d piece from out d' out' (fed_nothing d.state from q)
+pub data FeedSays (d : Suspended) (piece : List ℕ) (from : ℕ) (out : List ℕ) (d' : State → Suspended) (out' : List ℕ) : Result Fed Refusal → Type 0 where
+  takes : {s : State} {place printed : ℕ} {more : Bool} → state_refusal d out ≡ 0 → Fits d out → Feeds d piece from out (d' s) place printed more out' → FeedSays d piece from out d' out' (Ok (fed_to s place printed more))
+  refuses : {q : Refusal} → state_refusal d out ≡ number_of q → d' d.state ≡ d → out' ≡ out → FeedSays d piece from out d' out' (Err q)

@@ -1,5 +1,6 @@
 -- Of all that a call on a piece could answer and leave, no two fit what it says: behind `Only` stands the contract of `feed` as the code has it. Assumes nothing.
-use Rattle.std.specs.Prelude.{List, ℕ}
+use Rattle.std.specs.Prelude.{List, ℕ, Result}
+use Rattle.refusal.specs.declared.Refusal.{Refusal}
 use Rattle.refusal.specs.Only.{Only, After}
 use Rattle.update.specs.Memories.{Memory}
 use Rattle.session_memory.specs.declared.State.{State}
@@ -21,4 +22,4 @@ desk_of b = suspended b.words b.window b.parts b.part_owns b.memory
 -- 23.9: nothing is left open of the answer, with the state in it, of any buffer, or of the one that is printed into
 abbrev pub FeedsOne : Type 0
 FeedsOne = (d : Suspended) (piece : List ℕ) (from : ℕ) (out : List ℕ)
-    → Only (λ (x : After Fed (After Lent (List ℕ))). FeedSays d piece from out (desk_of x.found.answer) x.found.found x.answer)
+    → Only (λ (x : After (Result Fed Refusal) (After Lent (List ℕ))). FeedSays d piece from out (desk_of x.found.answer) x.found.found x.answer)

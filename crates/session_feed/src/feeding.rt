@@ -6,14 +6,14 @@ ghost use Rattle.session_owed.specs.Owed.{owns_kept, parts_kept, Sound};
 ghost use Rattle.session_owed.specs.Hearing.{line_room, hearing, Hears, Spacious};
 ghost use Rattle.session_rounds.specs.Telling.{RoundsTold};
 ghost use Rattle.session_memory.specs.Suspended.{suspended, Tests};
-ghost use Rattle.session_feed.specs.Feeding.{fed_nothing, Feeds, FeedSays};
+ghost use Rattle.session_feed.specs.Feeding.{Feeds, FeedSays};
 ghost use Rattle.session_feed.specs.Inner.Faring.{Ready, Turns};
 ghost use Rattle.session_feed.specs.Running.{silent};
 ghost use Rattle.table.specs.Words.{table_words};
 ghost use Rattle.update.specs.Memories.{lent};
 
 use crate::Fed;
-use refusal::{Refusal, Verdict};
+use refusal::Refusal;
 use session_line::hear;
 use session_memory::{State, copy_in, copy_out, gather, is_narrow, is_stopped, judge_state};
 use session_owed::{Awaited, Told};
@@ -286,20 +286,7 @@ fn feed_sound(
     }
 }
 
-// Nothing is taken.
-fn refuse(state: State, from: usize, refusal: Refusal) -> Fed
-    ensures { result ≡ fed_nothing state from refusal }
-{
-    Fed {
-        verdict: Verdict::Refused(refusal),
-        state: state,
-        place: from,
-        printed: 0,
-        more: false,
-    }
-}
-
-// One call: as much of the piece as the room for printing allows.
+// One call: as much of the piece as the room for printing allows; or why the memory can't be a session's, and then all is as it was.
 pub fn feed(
     state: State,
     words: &mut [u64],
@@ -313,49 +300,28 @@ pub fn feed(
     piece: &[u8],
     from: usize,
     out: &mut [u8],
-) -> Fed
+) -> Result<Fed, Refusal>
     ensures { FeedSays (suspended words.old window.old parts.old part_owns.old (lent held.old held_owns.old sets.old earlier.old) state) piece.now from out.old (suspended words.new window.new parts.new part_owns.new (lent held.new held_owns.new sets.new earlier.new)) out.new result }
 {
     if is_narrow(
-        &*words,
-        &*window,
-        &*parts,
-        &*part_owns,
-        &*held,
-        &*held_owns,
-        &*sets,
-        &*earlier,
-        &*out,
+        words, window, parts, part_owns, held, held_owns, sets, earlier, out,
     ) {
-        return refuse(state, from, Refusal::Buffer);
+        return Err(Refusal::Buffer);
     }
     let mut table = [0u64; 2657];
-    copy_in(&*words, &mut table);
-    match judge_state(
-        &table,
-        state,
-        &*window,
-        &*part_owns,
-        &*held,
-        &*held_owns,
-        &*sets,
-        &*earlier,
-    ) {
-        Verdict::Sound => {
-            let fed = feed_sound(
-                &mut table, state, window, parts, part_owns, held, held_owns, sets, earlier, piece,
-                from, out,
-            );
-            copy_out(&table, words);
-            let now = fed.state;
-            Fed {
-                verdict: Verdict::Sound,
-                state: now,
-                place: fed.place,
-                printed: fed.printed,
-                more: fed.more,
-            }
-        }
-        Verdict::Refused(r) => refuse(state, from, r),
-    }
+    copy_in(words, &mut table);
+    judge_state(
+        &table, state, window, part_owns, held, held_owns, sets, earlier,
+    )?;
+    let fed = feed_sound(
+        &mut table, state, window, parts, part_owns, held, held_owns, sets, earlier, piece, from,
+        out,
+    );
+    copy_out(&table, words);
+    Ok(Fed {
+        state: fed.state,
+        place: fed.place,
+        printed: fed.printed,
+        more: fed.more,
+    })
 }

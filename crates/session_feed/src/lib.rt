@@ -4,13 +4,11 @@
 mod feeding;
 
 pub use feeding::feed;
-use refusal::Verdict;
 pub use session_memory::{State, finish, start};
 
-// How far the piece was taken, how many bytes are to be printed, and whether there is more to do; or why the memory can't be a session's, and then all is as it was.
+// How far the piece was taken, how many bytes are to be printed, and whether there is more to do.
 #[derive(Clone, Copy)]
 pub struct Fed {
-    pub verdict: Verdict,
     pub state: State,
     pub place: usize,
     pub printed: usize,

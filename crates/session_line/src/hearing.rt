@@ -13,7 +13,7 @@ use crate::opening::open_update;
 use refusal::Refusal;
 use session_owed::{Awaited, Coming, PARTS, Told, announced_in, keep_point};
 use text_frame::{Change, Expected, Frame, put_refusal};
-use text_table::{Taken, take_frame};
+use text_table::take_frame;
 use update::Record;
 
 // 19.5: writes a refusal behind which nothing is read.
@@ -63,12 +63,12 @@ fn hear_table(
 {
     let none = Record::empty();
     match take_frame(table, expected, frame, line) {
-        Taken::Next(next) => Told {
+        Ok(next) => Told {
             awaited: awaited_of(next),
             record: none,
             printed: printed,
         },
-        Taken::Stopped { refusal, line: bad } => stop(out, printed, none, refusal, bad),
+        Err(e) => stop(out, printed, none, e.refusal, e.line),
     }
 }
 

@@ -6,12 +6,12 @@ ghost use Rattle.session_owed.specs.Owed.{owns_kept, parts_kept, order_call};
 ghost use Rattle.session_owed.specs.Hearing.{called, Hears};
 ghost use Rattle.update.specs.Memories.{lent};
 
-use refusal::Verdict;
+use refusal::Refusal;
 use session_owed::{Awaited, Coming, PARTS, Told, points_in};
 use text_frame::put_refusal;
 use tree::{Places, Point};
 use update::Record;
-use update_open::{Begun, load_judged, replace_judged, replace_points_judged};
+use update_open::{load_judged, replace_judged, replace_points_judged};
 
 // A round makes an evaluation at the least, so that no update takes more steps.
 const TURNS: u64 = Record::EVALUATIONS + 2;
@@ -35,9 +35,9 @@ fn call_order(
     held_owns: &mut [u64],
     sets: &mut [u64],
     earlier: &mut [u64],
-) -> Begun
+) -> Result<Record, Refusal>
     requires { Holding table.now (lent held.old held_owns.old sets.old earlier.old) «record» }
-    ensures { begun result (lent held.new held_owns.new sets.new earlier.new) ≡ order_call coming points table.now (lent held.old held_owns.old sets.old earlier.old) «record» new.now new_owns.now }
+    ensures { begun «record» result (lent held.new held_owns.new sets.new earlier.new) ≡ order_call coming points table.now (lent held.old held_owns.old sets.old earlier.old) «record» new.now new_owns.now }
 {
     match coming {
         Coming::Load => load_judged(table, record, new, new_owns, held, held_owns, sets, earlier),
@@ -83,7 +83,7 @@ pub fn open_update(
 {
     let n = at_most(count);
     let points = points_in(part_owns);
-    let begun = call_order(
+    let opened = call_order(
         table,
         record,
         coming,
@@ -95,18 +95,16 @@ pub fn open_update(
         sets,
         earlier,
     );
-    let next = begun.record;
-    let verdict = begun.verdict;
-    match verdict {
-        Verdict::Sound => Told {
+    match opened {
+        Ok(next) => Told {
             awaited: Awaited::Working { turns: TURNS },
             record: next,
             printed: printed,
         },
-        Verdict::Refused(r) => Told {
+        Err(refusal) => Told {
             awaited: Awaited::Command,
-            record: next,
-            printed: put_refusal(out, printed, r, line),
+            record: record,
+            printed: put_refusal(out, printed, refusal, line),
         },
     }
 }

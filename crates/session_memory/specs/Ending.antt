@@ -1,9 +1,8 @@
 -- The end of the input: what is printed then, by what is waited for, and when nothing can be. Assumes nothing.
-use Rattle.std.specs.Prelude.{◌≡◌, Bool, true, false, ◌↔◌, List, ℕ, length}
+use Rattle.std.specs.Prelude.{◌≡◌, Bool, true, false, ◌↔◌, List, ℕ, length, Result}
 use Rattle.refusal.specs.declared.Refusal.{Refusal}
 use Rattle.refusal.specs.declared.Refusal.TheVariants as why
 use Rattle.refusal.specs.Orders.{when}
-use Rattle.text_frame.specs.declared.Written.{Written}
 use Rattle.text_tree.specs.Written.{written_of, buffer_after}
 use Rattle.text_tree.specs.Writes.{Writes}
 use Rattle.session_owed.specs.Laws.{end_text}
@@ -25,7 +24,7 @@ working (Working turns) = true
 working Stopped = false
 
 -- 15.15, 20.10, 20.11: 10 while an update is at work, then 15 where the buffer is shorter than what is to be written
-unfoldable pub finish_answer : State → List ℕ → Written
+unfoldable pub finish_answer : State → List ℕ → Result ℕ Refusal
 finish_answer s out = written_of (when (working s.awaited) 10) (length out) (last_text s)
 
 -- 20.10, 20.11: and the buffer then
@@ -33,7 +32,7 @@ unfoldable pub finish_out : State → List ℕ → List ℕ
 finish_out s out = buffer_after (when (working s.awaited) 10) out (last_text s)
 
 -- 20.10, 20.11: what `finish` says: the answer, and what is printed then
-abbrev pub FinishSays : State → List ℕ → Written → List ℕ → Type 0
+abbrev pub FinishSays : State → List ℕ → Result ℕ Refusal → List ℕ → Type 0
 FinishSays s out a out' = (a ≡ finish_answer s out) × (out' ≡ finish_out s out)
 
 -- 20.11: what is waited for belongs to a table or a command that is not complete yet
@@ -58,5 +57,5 @@ pub data Early (awaited : Awaited) : Refusal → Type 0 where
 -- 15.15, 23.1: `finish` answers and leaves exactly that: 10 and the buffer as it was while an update is at work; else 15 exactly where the buffer is shorter than
 -- what is to be written, and otherwise its length, and it stands at the buffer's start
 abbrev pub FinishExactly : Type 0
-FinishExactly = (s : State) (out : List ℕ) (a : Written) (out' : List ℕ)
+FinishExactly = (s : State) (out : List ℕ) (a : Result ℕ Refusal) (out' : List ℕ)
     → FinishSays s out a out' ↔ Writes (Early s.awaited) (AtWork s.awaited → ⊥) out (last_text s) a out'

@@ -10,7 +10,7 @@ ghost use Rattle.session_memory.specs.Ending.{FinishSays, inside, working};
 use crate::State;
 use refusal::Refusal;
 use session_owed::Awaited;
-use text_frame::{REFUSAL_LINE, Written, put_refusal};
+use text_frame::{REFUSAL_LINE, put_refusal};
 
 pub fn is_stopped(awaited: Awaited) -> bool
     ensures { Tests result (awaited ≡ Stopped) }
@@ -60,25 +60,25 @@ fn is_working(awaited: Awaited) -> bool
 }
 
 // Writes the last line where it has room.
-fn put_last(out: &mut [u8], refusal: Refusal, line: u32) -> Written
+fn put_last(out: &mut [u8], refusal: Refusal, line: u32) -> Result<usize, Refusal>
     ensures { (result ≡ written_of 0 (length out.old) (refusal_text (number_of refusal) line)) × (out.new ≡ buffer_after 0 out.old (refusal_text (number_of refusal) line)) }
 {
     if out.len() < REFUSAL_LINE {
-        return Written::Refused(Refusal::Buffer);
+        return Err(Refusal::Buffer);
     }
-    Written::Length(put_refusal(out, 0, refusal, line))
+    Ok(put_refusal(out, 0, refusal, line))
 }
 
 // The end of the input: 10 while an update is at work, then 15; 13 is written inside a line, 14 inside the table or a command.
-pub fn finish(state: State, out: &mut [u8]) -> Written
+pub fn finish(state: State, out: &mut [u8]) -> Result<usize, Refusal>
     ensures { FinishSays state out.old result out.new }
 {
     let awaited = state.awaited;
     if is_working(awaited) {
-        return Written::Refused(Refusal::Busy);
+        return Err(Refusal::Busy);
     }
     if is_stopped(awaited) {
-        return Written::Length(0);
+        return Ok(0);
     }
     if 0 < state.begun {
         return put_last(out, Refusal::Line, state.line);
@@ -86,5 +86,5 @@ pub fn finish(state: State, out: &mut [u8]) -> Written
     if is_inside(awaited) {
         return put_last(out, Refusal::Frame, state.line);
     }
-    Written::Length(0)
+    Ok(0)
 }

@@ -10,7 +10,7 @@ ghost use Rattle.session_memory.specs.Suspended.{Wide, Tests};
 ghost use Rattle.session_memory.specs.Refusals.{frame_refusal, sofar_refusal, misnamed, kept_order, settled_order};
 
 use crate::State;
-use refusal::{Refusal, Verdict};
+use refusal::Refusal;
 use session_owed::{Awaited, PART_OWNS, PARTS, announced_in};
 use table::WORDS;
 use table_judge::{judge_equation, judge_header, judge_production, judge_symbol};
@@ -126,7 +126,7 @@ fn is_same(a: Expected, b: Expected) -> bool
 }
 
 // The judgement of one frame of a table.
-fn judge_at(table: &[u64; 2657], expected: Expected) -> Verdict
+fn judge_at(table: &[u64; 2657], expected: Expected) -> Result<(), Refusal>
     requires { Awaits table.now expected }
     ensures { verdict_of result ≡ frame_refusal table.now expected }
 {
@@ -135,31 +135,25 @@ fn judge_at(table: &[u64; 2657], expected: Expected) -> Verdict
         Expected::AtSymbol(s) => judge_symbol(table, s),
         Expected::AtProduction(p) => judge_production(table, p),
         Expected::AtEquation(p, q, k) => judge_equation(table, p, q, k),
-        Expected::Ended => Verdict::Refused(Refusal::Fields),
+        Expected::Ended => Err(Refusal::Fields),
     }
 }
 
 // The frames of a table before the one that is expected: 1 to 5 at the first that is refused, 11 where no walk comes to it.
-fn judge_so_far(table: &[u64; 2657], expected: Expected) -> Verdict
+fn judge_so_far(table: &[u64; 2657], expected: Expected) -> Result<(), Refusal>
     ensures { verdict_of result ≡ sofar_refusal table.now expected }
 {
     let mut x = Expected::AtHeader;
     let mut still: usize = WORDS;
     while 0 < still {
         if is_same(x, expected) {
-            return Verdict::Sound;
+            return Ok(());
         }
-        match judge_at(table, x) {
-            Verdict::Sound => {
-                x = next_of(table, x);
-                still -= 1;
-            }
-            Verdict::Refused(r) => {
-                return Verdict::Refused(r);
-            }
-        }
+        judge_at(table, x)?;
+        x = next_of(table, x);
+        still -= 1;
     }
-    Verdict::Refused(Refusal::Fields)
+    Err(Refusal::Fields)
 }
 
 // 11: whether no lines name so many points with so many nodes.
@@ -184,18 +178,14 @@ fn judge_kept(
     held_owns: &[u64],
     sets: &[u64],
     earlier: &[u64],
-) -> Verdict
+) -> Result<(), Refusal>
     ensures { verdict_of result ≡ refusal_by (kept_order table.now (lent held.now held_owns.now sets.now earlier.now) «record») }
 {
-    match judge_ground(table, record, held, held_owns, sets, earlier) {
-        Verdict::Sound => {
-            if record.held {
-                return judge_holding(table, record, held, held_owns);
-            }
-            Verdict::Sound
-        }
-        Verdict::Refused(r) => Verdict::Refused(r),
+    judge_ground(table, record, held, held_owns, sets, earlier)?;
+    if record.held {
+        return judge_holding(table, record, held, held_owns);
     }
+    Ok(())
 }
 
 // By what is waited for.
@@ -208,12 +198,12 @@ pub fn judge_state(
     held_owns: &[u64],
     sets: &[u64],
     earlier: &[u64],
-) -> Verdict
+) -> Result<(), Refusal>
     requires { (29 ≤ length window.now) × (owns_kept ≤ length part_owns.now) }
     ensures { verdict_of result ≡ refusal_by (settled_order state table.now window.now part_owns.now (lent held.now held_owns.now sets.now earlier.now)) }
 {
     if !is_begun(window, state.begun) {
-        return Verdict::Refused(Refusal::Fields);
+        return Err(Refusal::Fields);
     }
     let record = state.record;
     let awaited = state.awaited;
@@ -222,7 +212,7 @@ pub fn judge_state(
         Awaited::Command => judge_kept(table, record, held, held_owns, sets, earlier),
         Awaited::Naming { count, taken, line } => {
             if is_misnamed(count, taken, part_owns) {
-                return Verdict::Refused(Refusal::Fields);
+                return Err(Refusal::Fields);
             }
             judge_kept(table, record, held, held_owns, sets, earlier)
         }
@@ -233,11 +223,11 @@ pub fn judge_state(
             line,
         } => {
             if count <= taken {
-                return Verdict::Refused(Refusal::Fields);
+                return Err(Refusal::Fields);
             }
             judge_kept(table, record, held, held_owns, sets, earlier)
         }
         Awaited::Working { turns } => judge_step(table, record, held, held_owns, sets, earlier),
-        Awaited::Stopped => Verdict::Sound,
+        Awaited::Stopped => Ok(()),
     }
 }

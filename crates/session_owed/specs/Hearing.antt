@@ -1,5 +1,5 @@
 -- What one whole line leads to, by its frame and by what is waited for: the awaited behind it, what is printed, and the memory. Assumes nothing.
-use Rattle.std.specs.Prelude.{◌≡◌, cond, List, [], ℕ, zero, suc, ◌+◌, ◌%◌, ◌^◌, ◌≤◌, min, ltb, length, get_or, take, set}
+use Rattle.std.specs.Prelude.{◌≡◌, cond, List, [], ℕ, zero, suc, ◌+◌, ◌%◌, ◌^◌, ◌≤◌, min, ltb, length, get_or, take, set, Result, Ok, Err}
 use Rattle.std.proofs.lemmas.List.Edits.{sets}
 use Rattle.refusal.specs.Numbers.{number_of}
 use Rattle.update.specs.declared.Record.{Record}
@@ -8,8 +8,7 @@ use Rattle.update.specs.Memories.{Memory}
 use Rattle.update.specs.Calls.{Said, refused, said, Left, Opened, is_open}
 use Rattle.text_frame.specs.declared.Expected.{Expected}
 use Rattle.text_frame.specs.declared.Expected.TheVariants.{AtHeader, AtSymbol, AtProduction, AtEquation, Ended}
-use Rattle.text_table.specs.declared.Taken.{Taken}
-use Rattle.text_table.specs.declared.Taken.TheVariants.{Next, Stopped as StoppedAt}
+use Rattle.text_frame.specs.declared.Misread.{Misread}
 use Rattle.text_frame.specs.declared.Frame.{Frame}
 use Rattle.text_frame.specs.declared.Frame.TheVariants as frame
 use Rattle.text_frame.specs.declared.Change.{Change}
@@ -107,9 +106,9 @@ awaited_of (AtEquation p q k) = Table (AtEquation p q k)
 awaited_of Ended = Command
 
 -- 19.7: a frame of the table, stored and judged: w are the words then
-abbrev pub tabled : List ℕ → List ℕ → List ℕ → Memory → Taken → Heard
-tabled w ps os m (Next y) = waiting w ps os m empty_record (awaited_of y)
-tabled w ps os m (StoppedAt refusal line) = stopped w ps os m empty_record (number_of refusal) line
+abbrev pub tabled : List ℕ → List ℕ → List ℕ → Memory → Result Expected Misread → Heard
+tabled w ps os m (Ok y) = waiting w ps os m empty_record (awaited_of y)
+tabled w ps os m (Err e) = stopped w ps os m empty_record (number_of e.refusal) e.line
 
 -- 20.8: a node is kept if it is one of the first 513
 abbrev pub kept_at : ℕ → ℕ → List ℕ → List ℕ

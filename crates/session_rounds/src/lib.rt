@@ -54,7 +54,6 @@ fn put_answer(out: &mut [u8], printed: usize, answer: Answer) -> usize
             evaluations as u32,
             changed as u16,
         ),
-        Answer::Refused(r) => printed,
     }
 }
 

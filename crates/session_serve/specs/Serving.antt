@@ -1,6 +1,6 @@
 -- What the program hands from call to call, whatever was printed: the state and the memory that `feed` leaves. Assumes nothing.
-use Rattle.std.specs.Prelude.{◌≡◌, Bool, true, false, List, ℕ, ◌≤◌, ◌<◌, length, take}
-use Rattle.refusal.specs.declared.Verdict.TheVariants.{Sound}
+use Rattle.std.specs.Prelude.{◌≡◌, Bool, true, false, List, ℕ, ◌≤◌, ◌<◌, length, take, Result, Ok}
+use Rattle.refusal.specs.declared.Refusal.{Refusal}
 use Rattle.session_memory.specs.declared.State.{State}
 use Rattle.session_memory.specs.Suspended.{Suspended}
 use Rattle.session_feed.specs.declared.Fed.{Fed}
@@ -16,8 +16,8 @@ abbrev pub stopped : State → Progress
 stopped s = record { state = s; place = 0; more = false; going = false }
 
 -- 19.11: it goes on with what `feed` answered, or is over
-pub data Goes (fed : Fed) : Progress → Type 0 where
-  on : fed.verdict ≡ Sound → Goes fed (going_on fed.state fed.place fed.more)
+pub data Goes (fed : Result Fed Refusal) : Progress → Type 0 where
+  on : (f : Fed) → fed ≡ Ok f → Goes fed (going_on f.state f.place f.more)
   over : (s : State) → Goes fed (stopped s)
 
 -- the first n bytes of a buffer: it has as many, and they are n
@@ -26,7 +26,7 @@ IsPrefixLen n xs = (n ≤ length xs) × (n ≡ length (take n xs))
 
 -- 20.7: one call: what it leaves is what `feed` says
 pub record Served (d : Suspended) (piece : List ℕ) (from : ℕ) (out : List ℕ) (d' : State → Suspended) (out' : List ℕ) (r : Progress) : Type 0 where
-  pub fed : Fed
+  pub fed : Result Fed Refusal
   pub says : FeedSays d piece from out d' out' fed
   pub goes : Goes fed r
 

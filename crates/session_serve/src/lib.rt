@@ -7,10 +7,9 @@ ghost use Rattle.session_feed.specs.Laws.{Starts};
 ghost use Rattle.session_serve.specs.Serving.{going_on, stopped, Goes, IsPrefixLen, Served, PieceServed, NextServed};
 ghost use Rattle.update.specs.Memories.{lent};
 
-use refusal::Verdict;
+use refusal::Refusal;
 use session_feed::{Fed, State, feed, finish, start};
 use std::io::{Read, Write};
-use text_frame::Written;
 
 // Behind a call: the state, how far the piece was taken, whether more of it is to be done, and whether the session goes on.
 #[derive(Clone, Copy)]
@@ -55,34 +54,32 @@ fn print<W: Write>(output: &mut W, out: &[u8], printed: usize) -> bool {
 
 // The end of the input.
 fn print_end<W: Write>(output: &mut W, state: State, out: &mut [u8]) {
-    match finish(state, out) {
-        Written::Length(n) => {
-            print(output, &*out, n);
-        }
-        Written::Refused(r) => {}
+    if let Ok(n) = finish(state, out) {
+        print(output, out, n);
     }
 }
 
 // What a call of `feed` has answered, printed.
-fn print_fed<W: Write>(output: &mut W, fed: Fed, out: &[u8]) -> Progress
+fn print_fed<W: Write>(
+    output: &mut W,
+    state: State,
+    fed: Result<Fed, Refusal>,
+    out: &[u8],
+) -> Progress
     ensures { Goes fed result }
 {
-    let next = fed.state;
-    let verdict = fed.verdict;
-    match verdict {
-        Verdict::Sound => {
-            if print(output, out, fed.printed) {
-                return Progress {
-                    state: next,
-                    place: fed.place,
-                    more: fed.more,
-                    going: true,
-                };
-            }
-            stop(next)
-        }
-        Verdict::Refused(r) => stop(next),
+    let Ok(fed) = fed else {
+        return stop(state);
+    };
+    if print(output, out, fed.printed) {
+        return Progress {
+            state: fed.state,
+            place: fed.place,
+            more: fed.more,
+            going: true,
+        };
     }
+    stop(fed.state)
 }
 
 // One call of `feed`, and what it prints.
@@ -106,7 +103,7 @@ fn take_some<W: Write>(
     let fed = feed(
         state, words, window, parts, part_owns, held, held_owns, sets, earlier, piece, from, out,
     );
-    print_fed(output, fed, &*out)
+    print_fed(output, state, fed, out)
 }
 
 // One piece. What is owed for the rest of it falls with each turn.

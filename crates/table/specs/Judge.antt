@@ -1,8 +1,8 @@
 -- The judgement of a table, by its frames one after the other. Assumes nothing.
-use Rattle.std.specs.Prelude.{ℕ, suc, ◌/◌, ◌%◌, ◌≡◌, Bool, false, not, ◌&&◌, ◌||◌, List, [], ◌∷◌, ◌++◌, leb, ltb, eqb}
+use Rattle.std.specs.Prelude.{ℕ, suc, ◌/◌, ◌%◌, ◌≡◌, Bool, false, not, ◌&&◌, ◌||◌, List, [], ◌∷◌, ◌++◌, leb, ltb, eqb, Result}
 use Rattle.refusal.specs.Numbers.{verdict_of}
 use Rattle.refusal.specs.Orders.{Check, judged}
-use Rattle.refusal.specs.declared.Verdict.{Verdict}
+use Rattle.refusal.specs.declared.Refusal.{Refusal}
 use Rattle.table.specs.First.{first, row, some_below, lowest}
 use Rattle.table.specs.Words.{symbol_count, production_count, synthesized, inherited, child_count, symbol_at, defined, occurs, rule_of, head_at, constant_at}
 use Rattle.table.specs.Equations.{op_number, a_field, b_field, uses_a, uses_b, misformed}
@@ -86,5 +86,5 @@ abbrev pub table_check : List ℕ → Check
 table_check t = judged 1 5 (judge_table t)
 
 -- 15.11: what `judge_table` promises: a verdict whose number is the table's
-abbrev pub JudgeTableSays : List ℕ → Verdict → Type 0
+abbrev pub JudgeTableSays : List ℕ → Result (Unit {0}) Refusal → Type 0
 JudgeTableSays t a = verdict_of a ≡ judge_table t

@@ -7,7 +7,7 @@ ghost use Rattle.table.specs.Inner.Parts.{symbols_of, position_of, equations_of,
 ghost use Rattle.table.specs.Shape.{Symbols, Shaped};
 
 use crate::form::{is_misformed, uses_a, uses_b};
-use refusal::{Refusal, Verdict};
+use refusal::Refusal;
 use table::{
     FIRST, OPERATION, RULES_EACH, SETS_EACH, UPPER, child_count, constant_at, defined_at, head_at,
     inherited_of, number, occurs_at, production_count, symbol_at, symbol_count, synthesized_of,
@@ -30,56 +30,48 @@ fn is_outside(low: usize, high: usize, n: usize) -> bool
 }
 
 // The header's frame.
-pub fn judge_header(table: &[u64; 2657]) -> Verdict
+pub fn judge_header(table: &[u64; 2657]) -> Result<(), Refusal>
     ensures { verdict_of result ≡ refusal_at table.now header }
 {
     if is_outside(1, SYMBOLS_MOST, symbol_count(table)) {
-        return Verdict::Refused(Refusal::Count);
+        return Err(Refusal::Count);
     }
     if is_outside(1, PRODUCTIONS_MOST, production_count(table)) {
-        return Verdict::Refused(Refusal::Count);
+        return Err(Refusal::Count);
     }
-    Verdict::Sound
+    Ok(())
 }
 
 // A symbol's frame.
-pub fn judge_symbol(table: &[u64; 2657], s: usize) -> Verdict
+pub fn judge_symbol(table: &[u64; 2657], s: usize) -> Result<(), Refusal>
     requires { s < 32 }
     ensures { verdict_of result ≡ refusal_at table.now (symbol s) }
 {
     if SETS_EACH < synthesized_of(table, s) {
-        return Verdict::Refused(Refusal::Count);
+        return Err(Refusal::Count);
     }
     let inherited = inherited_of(table, s);
     if SETS_EACH < inherited {
-        return Verdict::Refused(Refusal::Count);
+        return Err(Refusal::Count);
     }
     if s != 0 {
-        return Verdict::Sound;
+        return Ok(());
     }
     if 0 < inherited {
-        return Verdict::Refused(Refusal::Start);
+        return Err(Refusal::Start);
     }
-    Verdict::Sound
+    Ok(())
 }
 
-fn judge_symbols(table: &[u64; 2657]) -> Verdict
+fn judge_symbols(table: &[u64; 2657]) -> Result<(), Refusal>
     requires { symbol_count table.now ≤ 32 }
     ensures { verdict_of result ≡ symbols_of table.now }
 {
     let count = symbol_count(table);
-    let mut s = 0;
-    while s < count {
-        match judge_symbol(table, s) {
-            Verdict::Sound => {
-                s += 1;
-            }
-            Verdict::Refused(r) => {
-                return Verdict::Refused(r);
-            }
-        }
+    for s in 0..count {
+        judge_symbol(table, s)?;
     }
-    Verdict::Sound
+    Ok(())
 }
 
 // Whether a symbol of a production isn't below the symbol count.
@@ -90,29 +82,27 @@ fn is_foreign(table: &[u64; 2657], p: usize) -> bool
 {
     let symbols = symbol_count(table);
     let count = child_count(table, p);
-    let mut q = 0;
-    while q <= count {
+    for q in 0..=count {
         if symbols <= symbol_at(table, p, q) {
             return true;
         }
-        q += 1;
     }
     false
 }
 
 // A production's frame.
 #[tactic(auto, unfolding(table::specs::Judge::refusal_at))]
-pub fn judge_production(table: &[u64; 2657], p: usize) -> Verdict
+pub fn judge_production(table: &[u64; 2657], p: usize) -> Result<(), Refusal>
     requires { p < 64 }
     ensures { verdict_of result ≡ refusal_at table.now (production p) }
 {
     if CHILDREN_MOST < child_count(table, p) {
-        return Verdict::Refused(Refusal::Count);
+        return Err(Refusal::Count);
     }
     if is_foreign(table, p) {
-        return Verdict::Refused(Refusal::Symbol);
+        return Err(Refusal::Symbol);
     }
-    Verdict::Sound
+    Ok(())
 }
 
 // 5: an argument that is used and names no declared occurrence.
@@ -132,7 +122,7 @@ fn is_misnamed(table: &[u64; 2657], p: usize, used: bool, x: u64) -> bool
 
 // An equation's frame.
 #[tactic(auto, unfolding(table::specs::Judge::refusal_at, table::specs::Words::rule_of, table::specs::Equations::op_number, table::specs::Equations::a_field, table::specs::Equations::b_field))]
-pub fn judge_equation(table: &[u64; 2657], p: usize, q: usize, k: usize) -> Verdict
+pub fn judge_equation(table: &[u64; 2657], p: usize, q: usize, k: usize) -> Result<(), Refusal>
     requires p_bound { p < 64 }
     requires shaped { Shaped table.now p }
     requires q_bound { (q ≤ 4) × (k < 4) }
@@ -141,101 +131,71 @@ pub fn judge_equation(table: &[u64; 2657], p: usize, q: usize, k: usize) -> Verd
     let rule = RULES_EACH * p + (SETS_EACH * q + k);
     let head = head_at(table, rule);
     if is_misformed(head, constant_at(table, rule)) {
-        return Verdict::Refused(Refusal::Form);
+        return Err(Refusal::Form);
     }
     let op = head / OPERATION;
     if is_misnamed(table, p, uses_a(op), head / FIRST % FIRST) {
-        return Verdict::Refused(Refusal::Argument);
+        return Err(Refusal::Argument);
     }
     if is_misnamed(table, p, uses_b(op), head % FIRST) {
-        return Verdict::Refused(Refusal::Argument);
+        return Err(Refusal::Argument);
     }
-    Verdict::Sound
+    Ok(())
 }
 
 // The equations of one position of a production.
-fn judge_position(table: &[u64; 2657], p: usize, q: usize) -> Verdict
+fn judge_position(table: &[u64; 2657], p: usize, q: usize) -> Result<(), Refusal>
     requires p_bound { p < 64 }
     requires shaped { Shaped table.now p }
     requires q_bound { q ≤ child_count table.now p }
     ensures { verdict_of result ≡ position_of table.now p q }
 {
     let count = defined_at(table, p, q);
-    let mut k = 0;
-    while k < count {
-        match judge_equation(table, p, q, k) {
-            Verdict::Sound => {
-                k += 1;
-            }
-            Verdict::Refused(r) => {
-                return Verdict::Refused(r);
-            }
-        }
+    for k in 0..count {
+        judge_equation(table, p, q, k)?;
     }
-    Verdict::Sound
+    Ok(())
 }
 
 // All equations of a production.
-fn judge_equations(table: &[u64; 2657], p: usize) -> Verdict
+fn judge_equations(table: &[u64; 2657], p: usize) -> Result<(), Refusal>
     requires p_bound { p < 64 }
     requires shaped { Shaped table.now p }
     ensures { verdict_of result ≡ equations_of table.now p }
 {
     let count = child_count(table, p);
-    let mut q = 0;
-    while q <= count {
-        match judge_position(table, p, q) {
-            Verdict::Sound => {
-                q += 1;
-            }
-            Verdict::Refused(r) => {
-                return Verdict::Refused(r);
-            }
-        }
+    for q in 0..=count {
+        judge_position(table, p, q)?;
     }
-    Verdict::Sound
+    Ok(())
 }
 
 // A production with its equations.
-fn judge_part(table: &[u64; 2657], p: usize) -> Verdict
+fn judge_part(table: &[u64; 2657], p: usize) -> Result<(), Refusal>
     requires p_bound { p < 64 }
     requires symbols { Symbols table.now }
     ensures { verdict_of result ≡ part_number table.now p }
 {
-    match judge_production(table, p) {
-        Verdict::Sound => judge_equations(table, p),
-        Verdict::Refused(r) => Verdict::Refused(r),
-    }
+    judge_production(table, p)?;
+    judge_equations(table, p)
 }
 
-fn judge_productions(table: &[u64; 2657]) -> Verdict
+fn judge_productions(table: &[u64; 2657]) -> Result<(), Refusal>
     requires { Symbols table.now }
     ensures { verdict_of result ≡ productions_of table.now }
 {
     let count = production_count(table);
-    let mut p = 0;
-    while p < count {
-        match judge_part(table, p) {
-            Verdict::Sound => {
-                p += 1;
-            }
-            Verdict::Refused(r) => {
-                return Verdict::Refused(r);
-            }
-        }
+    for p in 0..count {
+        judge_part(table, p)?;
     }
-    Verdict::Sound
+    Ok(())
 }
 
 // The table: its frames in order.
-pub fn judge_table(table: &[u64; 2657]) -> Verdict
+pub fn judge_table(table: &[u64; 2657]) -> Result<(), Refusal>
     ensures { JudgeTableSays table.now result }
 {
-    match judge_header(table) {
-        Verdict::Sound => match judge_symbols(table) {
-            Verdict::Sound => judge_productions(table),
-            Verdict::Refused(r) => Verdict::Refused(r),
-        },
-        Verdict::Refused(r) => Verdict::Refused(r),
-    }
+    judge_header(table)?;
+    judge_symbols(table)?;
+    judge_productions(table)
 }

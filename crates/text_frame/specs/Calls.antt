@@ -4,6 +4,8 @@ use Rattle.std.specs.Borrow.{Bor}
 use Rattle.text_frame.specs.Frames.{frame_at}
 use Rattle.text_frame.specs.declared.Step.{Step}
 use Rattle.text_frame.specs.declared.Reader.{Reader}
+use Rattle.text_frame.specs.declared.Misread.{Misread}
+use Rattle.refusal.specs.declared.Refusal.{Refusal}
 
 -- 16.4, 16.5: `frame_at` and `next_at`: the frame at a place of the text s, and where reading goes on, with that line's number
 abbrev pub FrameAtSays : List ℕ → ℕ → ℕ → Step → Type 0
@@ -16,3 +18,7 @@ ReaderAtSays text place line a = (a.text ≡ text) × ((a.place ≡ place) × (a
 -- 16.4, 16.5: `next`: the same as `frame_at`, where the reader stands
 abbrev pub NextSays : Reader → Step → Type 0
 NextSays r a = FrameAtSays r.text.now r.place r.line a
+
+-- 21.6: a refusal at a line
+abbrev pub misread : Refusal → ℕ → Misread
+misread r line = record { refusal = r; line = line }

@@ -101,11 +101,11 @@ pub enum Expected {
     Ended,
 }
 
-// How many bytes were written, or why none.
+// Why a reading stops, and the line that is refused.
 #[derive(Clone, Copy)]
-pub enum Written {
-    Length(usize),
-    Refused(Refusal),
+pub struct Misread {
+    pub refusal: Refusal,
+    pub line: u32,
 }
 
 // A reader: the lent text, the place of the next line and its number.

@@ -7,8 +7,8 @@ ghost use Rattle.text_sets.specs.Telling.{told_from, slot_text, Tellable};
 ghost use Rattle.text_sets.specs.Calls.{DumpSays};
 ghost use Rattle.update.specs.Memories.{lent};
 
-use refusal::{Refusal, Verdict};
-use text_frame::{SET_LINE, Written, put_set};
+use refusal::Refusal;
+use text_frame::{SET_LINE, put_set};
 use update::Record;
 use update_judge::{is_declared, judge_look};
 
@@ -81,18 +81,13 @@ pub fn dump(
     sets: &[u64],
     earlier: &[u64],
     text: &mut [u8],
-) -> Written
+) -> Result<usize, Refusal>
     ensures { DumpSays table.now (lent held.now held_owns.now sets.now earlier.now) «record» text.old result text.new }
 {
-    match judge_look(table, record, held, held_owns, sets, earlier) {
-        Verdict::Sound => {
-            let nodes = record.nodes;
-            let n = sets_length(table, held, nodes, sets);
-            if text.len() < n {
-                return Written::Refused(Refusal::Buffer);
-            }
-            Written::Length(put_sets(table, held, nodes, sets, text, 0))
-        }
-        Verdict::Refused(r) => Written::Refused(r),
+    judge_look(table, record, held, held_owns, sets, earlier)?;
+    let nodes = record.nodes;
+    if text.len() < sets_length(table, held, nodes, sets) {
+        return Err(Refusal::Buffer);
     }
+    Ok(put_sets(table, held, nodes, sets, text, 0))
 }

@@ -1,5 +1,5 @@
 -- Reading a table frame by frame: one step, and what holds between steps. Assumes nothing.
-use Rattle.std.specs.Prelude.{ℕ, zero, suc, ◌+◌, ◌*◌, ◌≤◌, ◌<◌, ◌≡◌, cond, List, eqb, set}
+use Rattle.std.specs.Prelude.{ℕ, zero, suc, ◌+◌, ◌*◌, ◌≤◌, ◌<◌, ◌≡◌, cond, List, eqb, set, Result, Ok, Err}
 use Rattle.table.specs.Words.{symbol_count, production_count, child_count, defined}
 use Rattle.table.specs.Judge as table
 use Rattle.table.specs.Judge.{refusal_at, judge_table}
@@ -14,8 +14,8 @@ use Rattle.text_frame.specs.declared.Frame.TheVariants.{Rule, Node, Point, Chang
 use Rattle.text_frame.specs.declared.Rule.TheVariants.{Header, Symbol, Production, Equation}
 use Rattle.text_frame.specs.declared.Expected.{Expected}
 use Rattle.text_frame.specs.declared.Expected.TheVariants.{AtHeader, AtSymbol, AtProduction, AtEquation, Ended}
-use Rattle.text_table.specs.declared.Taken.{Taken}
-use Rattle.text_table.specs.declared.Taken.TheVariants.{Next, Stopped}
+use Rattle.text_frame.specs.Calls.{misread}
+use Rattle.text_frame.specs.declared.Misread.{Misread}
 
 -- 17.1, 17.2: the type that is expected; at the end one that no byte holds, so none that a frame has
 abbrev pub type_at : Expected → ℕ
@@ -64,24 +64,24 @@ unfoldable pub words_after : List ℕ → Expected → Frame → List ℕ
 words_after t x f = cond (eqb (type_of f) (type_at x)) (store t x (word_of f) (constant_of f)) t
 
 -- 14.14: a frame that is not the expected one: its own refusal, or 14, which is also given where the text is over
-abbrev pub strange_at : Frame → ℕ → Taken
-strange_at (Rule a) line = Stopped why.Frame line
-strange_at (Node a b) line = Stopped why.Frame line
-strange_at (Point a b) line = Stopped why.Frame line
-strange_at (Change a) line = Stopped why.Frame line
-strange_at Dump line = Stopped why.Frame line
-strange_at (Refused refusal own) line = Stopped refusal own
-strange_at Over line = Stopped why.Frame line
+abbrev pub strange_at : Frame → ℕ → Misread
+strange_at (Rule a) line = misread why.Frame line
+strange_at (Node a b) line = misread why.Frame line
+strange_at (Point a b) line = misread why.Frame line
+strange_at (Change a) line = misread why.Frame line
+strange_at Dump line = misread why.Frame line
+strange_at (Refused refusal own) line = misread refusal own
+strange_at Over line = misread why.Frame line
 
 -- 21.6: by the number of a frame: what comes next, or the refusal at its line
-abbrev pub judged_at : ℕ → Expected → ℕ → Taken
-judged_at zero next line = Next next
-judged_at (suc n) next line = Stopped (refusal_of (suc n)) line
+abbrev pub judged_at : ℕ → Expected → ℕ → Result Expected Misread
+judged_at zero next line = Ok next
+judged_at (suc n) next line = Err (misread (refusal_of (suc n)) line)
 
 -- 15.3, 15.13: a frame is judged as it comes, first for 13 and 14 and then for 1 to 5
-unfoldable pub taken_at : List ℕ → Expected → Frame → ℕ → Taken
+unfoldable pub taken_at : List ℕ → Expected → Frame → ℕ → Result Expected Misread
 taken_at t x f line =
-    cond (eqb (type_of f) (type_at x)) (judged_at (refusal_at (words_after t x f) (entry_of x)) (next_of (words_after t x f) x) line) (strange_at f line)
+    cond (eqb (type_of f) (type_at x)) (judged_at (refusal_at (words_after t x f) (entry_of x)) (next_of (words_after t x f) x) line) (Err (strange_at f line))
 
 -- what the words so far give to the judgement of the expected frame
 abbrev pub Awaits : List ℕ → Expected → Type 0
@@ -117,4 +117,4 @@ Sofar t Ended = judge_table t ≡ 0
 
 -- a frame that is taken leaves words of which that holds again; so what is read to its end is a sound table
 abbrev pub Goes : Type 0
-Goes = (t : List ℕ) (x : Expected) (f : Frame) (line : ℕ) (y : Expected) → Sofar t x → taken_at t x f line ≡ Next y → Sofar (words_after t x f) y
+Goes = (t : List ℕ) (x : Expected) (f : Frame) (line : ℕ) (y : Expected) → Sofar t x → taken_at t x f line ≡ Ok y → Sofar (words_after t x f) y

@@ -1,5 +1,5 @@
 -- Reading a whole table from text. Assumes nothing.
-use Rattle.std.specs.Prelude.{ℕ, zero, suc, ◌≡◌, cond, List, leb, length, replicate}
+use Rattle.std.specs.Prelude.{ℕ, zero, suc, ◌≡◌, cond, List, leb, length, replicate, Result, Ok, Err}
 use Rattle.std.proofs.Math.Seq.{paste}
 use Rattle.refusal.specs.declared.Refusal.{Refusal}
 use Rattle.refusal.specs.declared.Refusal.TheVariants as why
@@ -8,10 +8,9 @@ use Rattle.text_frame.specs.Walk.{is_on}
 use Rattle.text_table.specs.Read.{words_after, taken_at}
 use Rattle.text_frame.specs.declared.Expected.{Expected}
 use Rattle.text_frame.specs.declared.Expected.TheVariants.{AtHeader}
-use Rattle.text_table.specs.declared.Taken.{Taken}
-use Rattle.text_table.specs.declared.Taken.TheVariants.{Next, Stopped}
+use Rattle.text_frame.specs.Calls.{misread}
+use Rattle.text_frame.specs.declared.Misread.{Misread}
 use Rattle.text_table.specs.declared.ReadTable.{ReadTable}
-use Rattle.text_table.specs.declared.ReadTable.TheVariants.{Read, Refused}
 use Rattle.table.specs.Words.{table_words}
 
 -- the words of a table and where the text behind it starts, or why there is none
@@ -19,9 +18,9 @@ pub data Reading : Type 0 where
   done : List ℕ → ℕ → ℕ → Reading
   stop : Refusal → ℕ → Reading
 
-abbrev pub after : Taken → (Expected → Reading) → Reading
-after (Next y) go = go y
-after (Stopped refusal line) go = stop refusal line
+abbrev pub after : Result Expected Misread → (Expected → Reading) → Reading
+after (Ok y) go = go y
+after (Err e) go = stop e.refusal e.line
 
 -- 15.13, 17.2: from the words so far and the expected frame on, one frame after the other, n at most; a text has no more frames than bytes, so where n was
 -- its length and is used up, the text has ended
@@ -37,9 +36,12 @@ unfoldable pub reading_at : List ℕ → ℕ → ℕ → Reading
 reading_at s place line = read_on (length s) (replicate table_words 0) AtHeader s place line
 
 -- 15.13, 21.3: what is answered where the memory has so many words: 15, at the line where the table starts, comes last
-abbrev pub table_answer : Reading → ℕ → ℕ → ReadTable
-table_answer (done t place line) room start = cond (leb table_words room) (Read place line) (Refused why.Buffer start)
-table_answer (stop refusal line) room start = Refused refusal line
+abbrev pub table_read : ℕ → ℕ → ReadTable
+table_read place line = record { place = place; line = line }
+
+abbrev pub table_answer : Reading → ℕ → ℕ → Result ReadTable Misread
+table_answer (done t place line) room start = cond (leb table_words room) (Ok (table_read place line)) (Err (misread why.Buffer start))
+table_answer (stop refusal line) room start = Err (misread refusal line)
 
 -- 21.3, 21.5: and the memory then: all is judged before a word is written; words behind the table's are not touched
 abbrev pub memory_after : Reading → List ℕ → List ℕ
@@ -47,6 +49,6 @@ memory_after (done t place line) memory = cond (leb table_words (length memory))
 memory_after (stop refusal line) memory = memory
 
 -- the answer and the words of a reading
-abbrev pub Ends : Reading → ReadTable → List ℕ → Type 0
-Ends (done t place line) r words = (r ≡ Read place line) × (words ≡ t)
-Ends (stop refusal line) r words = r ≡ Refused refusal line
+abbrev pub Ends : Reading → Result ReadTable Misread → List ℕ → Type 0
+Ends (done t place line) r words = (r ≡ Ok (table_read place line)) × (words ≡ t)
+Ends (stop refusal line) r words = r ≡ Err (misread refusal line)

@@ -1,5 +1,5 @@
 -- When a table's text is written and read and when it is refused, number by number, said without the definitions that compute the answer. Assumes nothing.
-use Rattle.std.specs.Prelude.{◌≡◌, true, false, ◌↔◌, List, ℕ, ◌+◌, ◌≤◌, ◌<◌, length, replicate}
+use Rattle.std.specs.Prelude.{◌≡◌, true, false, ◌↔◌, List, ℕ, ◌+◌, ◌≤◌, ◌<◌, length, replicate, Result, Ok, Err}
 use Rattle.std.proofs.Math.Seq.{paste}
 use Rattle.refusal.specs.Numbers.{number_of}
 use Rattle.refusal.specs.declared.Refusal.{Refusal}
@@ -13,21 +13,21 @@ use Rattle.text_frame.specs.Exactly.{IsFrame, Astray}
 use Rattle.text_frame.specs.declared.Frame.{Frame}
 use Rattle.text_frame.specs.declared.Expected.{Expected}
 use Rattle.text_frame.specs.declared.Expected.TheVariants.{AtHeader, Ended}
-use Rattle.text_frame.specs.declared.Written.{Written}
 use Rattle.text_tree.specs.Writes.{Writes}
 use Rattle.text_table.specs.Text.{table_text}
 use Rattle.text_table.specs.Read.{type_at, word_of, constant_of, store}
-use Rattle.text_table.specs.Reading.{Reading, done, stop, reading_at}
+use Rattle.text_table.specs.Reading.{Reading, done, stop, reading_at, table_read}
 use Rattle.text_table.specs.Calls.{WriteTableSays, ReadTableSays}
 use Rattle.text_table.specs.declared.ReadTable.{ReadTable}
-use Rattle.text_table.specs.declared.ReadTable.TheVariants as table
+use Rattle.text_frame.specs.Calls.{misread}
+use Rattle.text_frame.specs.declared.Misread.{Misread}
 use Rattle.table.specs.Words.{table_words}
 
 -- ---- writing
 
 -- 15.12, 23.1: `write_table` answers and leaves exactly that
 abbrev pub WriteTableExactly : Type 0
-WriteTableExactly = (t buffer : List ℕ) (a : Written) (buffer' : List ℕ)
+WriteTableExactly = (t buffer : List ℕ) (a : Result ℕ Refusal) (buffer' : List ℕ)
     → WriteTableSays t buffer a buffer' ↔ Writes (λ r. Refused t (number_of r)) (Sound t) buffer (table_text t) a buffer'
 
 -- ---- the walk over a table's lines
@@ -60,13 +60,13 @@ TableExactly = (s : List ℕ) (place line : ℕ) (x : Reading) → (x ≡ readin
 
 -- 15.13, 21.3, 21.5, 21.6: what is answered, and what the memory holds then: the number and the line that stopped the walk; else 15, at the line where the table
 -- starts, where there is room for fewer than 2,657 words; where it is refused nothing is written
-pub data ReadsTable (s : List ℕ) (place line : ℕ) (words : List ℕ) : ReadTable → List ℕ → Type 0 where
-  stopped : {r : Refusal} {l : ℕ} → TableRead s place line (stop r l) → ReadsTable s place line words (table.Refused r l) words
-  by15 : {t : List ℕ} {end next : ℕ} → TableRead s place line (done t end next) → length words < table_words → ReadsTable s place line words (table.Refused why.Buffer line) words
+pub data ReadsTable (s : List ℕ) (place line : ℕ) (words : List ℕ) : Result ReadTable Misread → List ℕ → Type 0 where
+  stopped : {r : Refusal} {l : ℕ} → TableRead s place line (stop r l) → ReadsTable s place line words (Err (misread r l)) words
+  by15 : {t : List ℕ} {end next : ℕ} → TableRead s place line (done t end next) → length words < table_words → ReadsTable s place line words (Err (misread why.Buffer line)) words
   read : {t : List ℕ} {end next : ℕ} → TableRead s place line (done t end next) → table_words ≤ length words
-      → ReadsTable s place line words (table.Read end next) (paste words 0 t table_words)
+      → ReadsTable s place line words (Ok (table_read end next)) (paste words 0 t table_words)
 
 -- 15.13, 23.1: `read_table` answers and leaves exactly that
 abbrev pub ReadTableExactly : Type 0
-ReadTableExactly = (s : List ℕ) (place line : ℕ) (words : List ℕ) (a : ReadTable) (words' : List ℕ)
+ReadTableExactly = (s : List ℕ) (place line : ℕ) (words : List ℕ) (a : Result ReadTable Misread) (words' : List ℕ)
     → ReadTableSays s place line words a words' ↔ ReadsTable s place line words a words'

@@ -5,14 +5,13 @@ ghost use Rattle.table.specs.Shape.{Symbols, Shaped};
 ghost use Rattle.refusal.specs.declared.Refusal.TheVariants as why;
 ghost use Rattle.text_frame.specs.declared.Frame.TheVariants as kind;
 ghost use Rattle.text_frame.specs.declared.Expected.TheVariants.{AtHeader, AtSymbol, AtProduction, AtEquation};
-ghost use Rattle.text_table.specs.declared.Taken.TheVariants.{Stopped};
+ghost use Rattle.text_frame.specs.Calls.{misread};
 ghost use Rattle.text_table.specs.Read.{strange_at, taken_at, words_after, Awaits};
 
-use crate::Taken;
-use refusal::{Refusal, Verdict};
+use refusal::Refusal;
 use table::{CONSTANTS, HEADS, PRODUCTIONS, RULES_EACH, SETS_EACH, SYMBOLS, UPPER};
 use table_judge::{judge_equation, judge_header, judge_production, judge_symbol};
-use text_frame::{Expected, Frame, Rule, next_of};
+use text_frame::{Expected, Frame, Misread, Rule, next_of};
 use text_line::wide;
 
 // Two bytes as one number, behind a number.
@@ -25,32 +24,33 @@ fn join(x: u64, a: u8, b: u8) -> u64
 
 // A frame that is not the expected one: its own refusal is passed on, else 14.
 #[tactic(auto, using(crate::proofs::Taking::not_refused))]
-fn strange(frame: Frame, line: u32) -> Taken
+fn strange(frame: Frame, line: u32) -> Misread
     ensures { result ≡ strange_at frame line }
 {
     let Frame::Refused { refusal, line: own } = frame else {
-        return Taken::Stopped {
-            refusal: Refusal::Frame,
-            line: line,
-        };
+        return misplaced(line);
     };
-    Taken::Stopped {
+    Misread {
         refusal: refusal,
         line: own,
     }
 }
 
 // 14 at a line.
-fn misplaced(line: u32) -> Taken
-    ensures { result ≡ Stopped why.Frame line }
+fn misplaced(line: u32) -> Misread
+    ensures { result ≡ misread why.Frame line }
 {
-    Taken::Stopped {
+    Misread {
         refusal: Refusal::Frame,
         line: line,
     }
 }
 
-fn take_header(table: &mut [u64; 2657], rule: Rule, line: u32) -> Taken
+fn take_header(
+    table: &mut [u64; 2657],
+    rule: Rule,
+    line: u32,
+) -> Result<Expected, Misread>
     requires { length table.old ≡ table_words }
     ensures { (result ≡ taken_at table.old AtHeader (kind.Rule rule) line) × (table.new ≡ words_after table.old AtHeader (kind.Rule rule)) }
 {
@@ -59,19 +59,19 @@ fn take_header(table: &mut [u64; 2657], rule: Rule, line: u32) -> Taken
         productions,
     } = rule
     else {
-        return misplaced(line);
+        return Err(misplaced(line));
     };
     table[0] = join(0, symbols, productions);
-    match judge_header(&*table) {
-        Verdict::Sound => Taken::Next(next_of(&*table, Expected::AtHeader)),
-        Verdict::Refused(r) => Taken::Stopped {
-            refusal: r,
-            line: line,
-        },
-    }
+    judge_header(table).map_err(|refusal| Misread { refusal, line })?;
+    Ok(next_of(table, Expected::AtHeader))
 }
 
-fn take_symbol(table: &mut [u64; 2657], s: usize, rule: Rule, line: u32) -> Taken
+fn take_symbol(
+    table: &mut [u64; 2657],
+    s: usize,
+    rule: Rule,
+    line: u32,
+) -> Result<Expected, Misread>
     requires { (length table.old ≡ table_words) × (s < 32) }
     ensures { (result ≡ taken_at table.old (AtSymbol s) (kind.Rule rule) line) × (table.new ≡ words_after table.old (AtSymbol s) (kind.Rule rule)) }
 {
@@ -80,19 +80,19 @@ fn take_symbol(table: &mut [u64; 2657], s: usize, rule: Rule, line: u32) -> Take
         inherited,
     } = rule
     else {
-        return misplaced(line);
+        return Err(misplaced(line));
     };
     table[SYMBOLS + s] = join(0, synthesized, inherited);
-    match judge_symbol(&*table, s) {
-        Verdict::Sound => Taken::Next(next_of(&*table, Expected::AtSymbol(s))),
-        Verdict::Refused(r) => Taken::Stopped {
-            refusal: r,
-            line: line,
-        },
-    }
+    judge_symbol(table, s).map_err(|refusal| Misread { refusal, line })?;
+    Ok(next_of(table, Expected::AtSymbol(s)))
 }
 
-fn take_production(table: &mut [u64; 2657], p: usize, rule: Rule, line: u32) -> Taken
+fn take_production(
+    table: &mut [u64; 2657],
+    p: usize,
+    rule: Rule,
+    line: u32,
+) -> Result<Expected, Misread>
     requires { (length table.old ≡ table_words) × ((p < 64) × Symbols table.old) }
     ensures { (result ≡ taken_at table.old (AtProduction p) (kind.Rule rule) line) × (table.new ≡ words_after table.old (AtProduction p) (kind.Rule rule)) }
 {
@@ -102,20 +102,15 @@ fn take_production(table: &mut [u64; 2657], p: usize, rule: Rule, line: u32) -> 
         children,
     } = rule
     else {
-        return misplaced(line);
+        return Err(misplaced(line));
     };
     table[PRODUCTIONS + p] = join(
         join(join(0, left, count), children.one, children.two),
         children.three,
         children.four,
     );
-    match judge_production(&*table, p) {
-        Verdict::Sound => Taken::Next(next_of(&*table, Expected::AtProduction(p))),
-        Verdict::Refused(r) => Taken::Stopped {
-            refusal: r,
-            line: line,
-        },
-    }
+    judge_production(table, p).map_err(|refusal| Misread { refusal, line })?;
+    Ok(next_of(table, Expected::AtProduction(p)))
 }
 
 fn take_equation(
@@ -125,38 +120,38 @@ fn take_equation(
     k: usize,
     rule: Rule,
     line: u32,
-) -> Taken
+) -> Result<Expected, Misread>
     requires { (length table.old ≡ table_words) × ((p < 64) × (Shaped table.old p × ((q ≤ child_count table.old p) × (k < 4)))) }
     ensures { (result ≡ taken_at table.old (AtEquation p q k) (kind.Rule rule) line) × (table.new ≡ words_after table.old (AtEquation p q k) (kind.Rule rule)) }
 {
     let Rule::Equation { op, a, b, c } = rule else {
-        return misplaced(line);
+        return Err(misplaced(line));
     };
     let at = RULES_EACH * p + (SETS_EACH * q + k);
     table[HEADS + 2 * at] = join(join(wide(op), a.position, a.index), b.position, b.index);
     table[CONSTANTS + 2 * at] = c;
-    match judge_equation(&*table, p, q, k) {
-        Verdict::Sound => Taken::Next(next_of(&*table, Expected::AtEquation(p, q, k))),
-        Verdict::Refused(r) => Taken::Stopped {
-            refusal: r,
-            line: line,
-        },
-    }
+    judge_equation(table, p, q, k).map_err(|refusal| Misread { refusal, line })?;
+    Ok(next_of(table, Expected::AtEquation(p, q, k)))
 }
 
 // One frame of a table: it is stored and judged, and what comes next is told. A stopped reading leaves words that are no table.
-pub fn take_frame(table: &mut [u64; 2657], expected: Expected, frame: Frame, line: u32) -> Taken
+pub fn take_frame(
+    table: &mut [u64; 2657],
+    expected: Expected,
+    frame: Frame,
+    line: u32,
+) -> Result<Expected, Misread>
     requires { (length table.old ≡ table_words) × Awaits table.old expected }
     ensures { (result ≡ taken_at table.old expected frame line) × (table.new ≡ words_after table.old expected frame) }
 {
     let Frame::Rule(rule) = frame else {
-        return strange(frame, line);
+        return Err(strange(frame, line));
     };
     match expected {
         Expected::AtHeader => take_header(table, rule, line),
         Expected::AtSymbol(s) => take_symbol(table, s, rule, line),
         Expected::AtProduction(p) => take_production(table, p, rule, line),
         Expected::AtEquation(p, q, k) => take_equation(table, p, q, k, rule, line),
-        Expected::Ended => misplaced(line),
+        Expected::Ended => Err(misplaced(line)),
     }
 }

@@ -7,13 +7,18 @@ ghost use Rattle.table.specs.Words.{table_words};
 
 use crate::read::take_frame;
 use crate::write::is_on;
-use crate::{ReadTable, Taken};
+use crate::ReadTable;
 use refusal::Refusal;
 use table::WORDS;
-use text_frame::{Expected, next_at};
+use text_frame::{Expected, Misread, next_at};
 
 // Reads a table's frames into words of its own, each judged as it comes.
-fn read_words(text: &[u8], place: usize, line: u32, words: &mut [u64; 2657]) -> ReadTable
+fn read_words(
+    text: &[u8],
+    place: usize,
+    line: u32,
+    words: &mut [u64; 2657],
+) -> Result<ReadTable, Misread>
     requires { words.old ≡ replicate table_words 0 }
     ensures { (length words.new ≡ table_words) × Ends (reading_at text.now place line) result words.new }
 {
@@ -23,29 +28,18 @@ fn read_words(text: &[u8], place: usize, line: u32, words: &mut [u64; 2657]) -> 
     let mut left = text.len();
     while is_on(x) {
         if left == 0 {
-            return ReadTable::Refused {
+            return Err(Misread {
                 refusal: Refusal::Frame,
                 line: l,
-            };
+            });
         }
         let step = next_at(text, at, l);
-        let frame = step.frame;
-        match take_frame(words, x, frame, l) {
-            Taken::Next(y) => {
-                x = y;
-                at = step.place;
-                l = step.line;
-                left -= 1;
-            }
-            Taken::Stopped { refusal, line: bad } => {
-                return ReadTable::Refused {
-                    refusal: refusal,
-                    line: bad,
-                };
-            }
-        }
+        x = take_frame(words, x, step.frame, l)?;
+        at = step.place;
+        l = step.line;
+        left -= 1;
     }
-    ReadTable::Read { place: at, line: l }
+    Ok(ReadTable { place: at, line: l })
 }
 
 // Copies a table's words into lent memory.
@@ -61,31 +55,22 @@ fn copy_words(words: &[u64; 2657], table: &mut [u64])
 }
 
 // Reads a table at a place of a text into lent memory: 13, 14 and 1 to 5 frame by frame, then 15; where it is refused nothing is written.
-pub fn read_table(text: &[u8], place: usize, line: u32, table: &mut [u64]) -> ReadTable
+pub fn read_table(
+    text: &[u8],
+    place: usize,
+    line: u32,
+    table: &mut [u64],
+) -> Result<ReadTable, Misread>
     ensures { ReadTableSays text.now place line table.old result table.new }
 {
     let mut words = [0u64; 2657];
-    let end = read_words(text, place, line, &mut words);
-    match end {
-        ReadTable::Read {
-            place: rest,
-            line: l,
-        } => {
-            if table.len() < WORDS {
-                return ReadTable::Refused {
-                    refusal: Refusal::Buffer,
-                    line: line,
-                };
-            }
-            copy_words(&words, table);
-            ReadTable::Read {
-                place: rest,
-                line: l,
-            }
-        }
-        ReadTable::Refused { refusal, line: bad } => ReadTable::Refused {
-            refusal: refusal,
-            line: bad,
-        },
+    let read = read_words(text, place, line, &mut words)?;
+    if table.len() < WORDS {
+        return Err(Misread {
+            refusal: Refusal::Buffer,
+            line: line,
+        });
     }
+    copy_words(&words, table);
+    Ok(read)
 }

@@ -11,10 +11,10 @@ ghost use Rattle.text_table.specs.Inner.Putting.{Shows, text_at};
 ghost use Rattle.text_table.specs.Inner.Putting.{reached_of, equation_text};
 ghost use Rattle.text_table.specs.Calls.{WriteTableSays};
 
-use refusal::{Refusal, Verdict};
+use refusal::Refusal;
 use table::{PRODUCTIONS, RULES_EACH, SETS_EACH, SYMBOLS, child_count, constant_at, head_at};
 use table_judge::judge_table;
-use text_frame::{Expected, Written, next_of};
+use text_frame::{Expected, next_of};
 
 // The lines of a header, of a symbol and of a production without children are so long, and an equation's.
 const SHORT_LINE: usize = 7;
@@ -148,16 +148,12 @@ fn put_table(table: &[u64; 2657], buffer: &mut [u8]) -> usize
 }
 
 // Writes a table: 1 to 5, then 15, and nothing where it is refused.
-pub fn write_table(table: &[u64; 2657], buffer: &mut [u8]) -> Written
+pub fn write_table(table: &[u64; 2657], buffer: &mut [u8]) -> Result<usize, Refusal>
     ensures { WriteTableSays table.now buffer.old result buffer.new }
 {
-    match judge_table(table) {
-        Verdict::Sound => {
-            if has_room(table, buffer.len()) {
-                return Written::Length(put_table(table, buffer));
-            }
-            Written::Refused(Refusal::Buffer)
-        }
-        Verdict::Refused(r) => Written::Refused(r),
+    judge_table(table)?;
+    if has_room(table, buffer.len()) {
+        return Ok(put_table(table, buffer));
     }
+    Err(Refusal::Buffer)
 }

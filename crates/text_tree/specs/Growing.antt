@@ -1,5 +1,5 @@
 -- A tree read from text into lent memory: all its lines are judged before it is. Assumes nothing.
-use Rattle.std.specs.Prelude.{ℕ, zero, suc, ◌≡◌, cond, ◌||◌, List, [], ◌∷◌, ltb, length, take}
+use Rattle.std.specs.Prelude.{ℕ, zero, suc, ◌≡◌, cond, ◌||◌, List, [], ◌∷◌, ltb, length, take, Result, Ok, Err}
 use Rattle.std.proofs.lemmas.List.Edits.{sets}
 use Rattle.refusal.specs.declared.Refusal.TheVariants as why
 use Rattle.refusal.specs.Orders.{above, judged, Order, refusal_by}
@@ -10,7 +10,8 @@ use Rattle.text_tree.specs.Written.{refusal_of}
 use Rattle.text_tree.specs.Planting.{Nodes, good, bad, node_then, tree_at}
 use Rattle.text_frame.specs.declared.Frame.{Frame}
 use Rattle.text_tree.specs.declared.ReadTree.{ReadTree}
-use Rattle.text_tree.specs.declared.ReadTree.TheVariants.{Read, Refused}
+use Rattle.text_frame.specs.Calls.{misread}
+use Rattle.text_frame.specs.declared.Misread.{Misread}
 
 -- 21.6: a number other than 0 refuses the nodes at the line where the reading began
 abbrev pub unless : ℕ → ℕ → Nodes → Nodes
@@ -36,9 +37,12 @@ unfoldable pub planting_at : List ℕ → List ℕ → ℕ → ℕ → ℕ → �
 planting_at t s place line room room_owns = unless (judge_table t) line (fitted t line room room_owns (tree_at s place line))
 
 -- 21.2, 21.4: what is answered: how many nodes, and where the text behind them starts; or the refusal
-abbrev pub tree_answer : Nodes → ReadTree
-tree_answer (good ps owns place line) = Read (length ps) place line
-tree_answer (bad refusal line) = Refused refusal line
+abbrev pub tree_read : ℕ → ℕ → ℕ → ReadTree
+tree_read count place line = record { count = count; place = place; line = line }
+
+abbrev pub tree_answer : Nodes → Result ReadTree Misread
+tree_answer (good ps owns place line) = Ok (tree_read (length ps) place line)
+tree_answer (bad refusal line) = Err (misread refusal line)
 
 -- 21.4, 21.5: and the memory then: the nodes, with what lies behind them not touched; as it was where the text is refused
 abbrev pub productions_after : Nodes → List ℕ → List ℕ

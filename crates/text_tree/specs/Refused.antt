@@ -1,5 +1,5 @@
 -- When a tree is read from text and when it is refused, number by number, said without the definitions that compute the answer. Assumes nothing.
-use Rattle.std.specs.Prelude.{◌≡◌, ◌⊎◌, ◌↔◌, List, [], ◌∷◌, ℕ, ◌+◌, ◌≤◌, ◌<◌, length}
+use Rattle.std.specs.Prelude.{◌≡◌, ◌⊎◌, ◌↔◌, List, [], ◌∷◌, ℕ, ◌+◌, ◌≤◌, ◌<◌, length, Result, Ok, Err}
 use Rattle.std.proofs.lemmas.List.Edits.{sets}
 use Rattle.refusal.specs.Numbers.{number_of}
 use Rattle.refusal.specs.declared.Refusal.{Refusal}
@@ -13,9 +13,11 @@ use Rattle.text_frame.specs.Exactly.{IsFrame, Astray}
 use Rattle.text_frame.specs.declared.Frame.TheVariants.{Node, Change}
 use Rattle.text_frame.specs.declared.Change.TheVariants.{Load}
 use Rattle.text_tree.specs.Planting.{Nodes, good, bad, nodes_at, tree_at}
+use Rattle.text_tree.specs.Growing.{tree_read}
 use Rattle.text_tree.specs.Calls.{ReadTreeSays}
 use Rattle.text_tree.specs.declared.ReadTree.{ReadTree}
-use Rattle.text_tree.specs.declared.ReadTree.TheVariants as tree
+use Rattle.text_frame.specs.Calls.{misread}
+use Rattle.text_frame.specs.declared.Misread.{Misread}
 
 -- ---- the lines of nodes
 
@@ -52,17 +54,17 @@ LinesExactly = (s : List ℕ) (place line : ℕ) (x : Nodes) → (x ≡ tree_at 
 -- 15.14, 21.4 to 21.6: what is answered, and what the memory holds then: the table's numbers at the command's line; 13 and 14 at the first line that is refused
 -- so; at the command's line 8, 6 and 7 of the tree that was read, and last 15, where it has more nodes than there is room for; where it is refused nothing is
 -- written
-pub data ReadsTree (t s : List ℕ) (place line : ℕ) (ns owns : List ℕ) : ReadTree → List ℕ → List ℕ → Type 0 where
-  by1to5 : {r : Refusal} → Refused t (number_of r) → ReadsTree t s place line ns owns (tree.Refused r line) ns owns
-  by13or14 : {r : Refusal} {l : ℕ} → Sound t → LinesRead s place line (bad r l) → ReadsTree t s place line ns owns (tree.Refused r l) ns owns
+pub data ReadsTree (t s : List ℕ) (place line : ℕ) (ns owns : List ℕ) : Result ReadTree Misread → List ℕ → List ℕ → Type 0 where
+  by1to5 : {r : Refusal} → Refused t (number_of r) → ReadsTree t s place line ns owns (Err (misread r line)) ns owns
+  by13or14 : {r : Refusal} {l : ℕ} → Sound t → LinesRead s place line (bad r l) → ReadsTree t s place line ns owns (Err (misread r l)) ns owns
   by8or6or7 : {r : Refusal} {ps os : List ℕ} {end next : ℕ} → Sound t → LinesRead s place line (good ps os end next) → TreeRefused t ps os r
-      → ReadsTree t s place line ns owns (tree.Refused r line) ns owns
+      → ReadsTree t s place line ns owns (Err (misread r line)) ns owns
   by15 : {ps os : List ℕ} {end next : ℕ} → LinesRead s place line (good ps os end next) → SoundTree t ps os → (length ns < length ps) ⊎ (length owns < length ps)
-      → ReadsTree t s place line ns owns (tree.Refused why.Buffer line) ns owns
+      → ReadsTree t s place line ns owns (Err (misread why.Buffer line)) ns owns
   read : {ps os : List ℕ} {end next : ℕ} → LinesRead s place line (good ps os end next) → SoundTree t ps os → length ps ≤ length ns → length ps ≤ length owns
-      → ReadsTree t s place line ns owns (tree.Read (length ps) end next) (sets ns 0 ps) (sets owns 0 os)
+      → ReadsTree t s place line ns owns (Ok (tree_read (length ps) end next)) (sets ns 0 ps) (sets owns 0 os)
 
 -- 15.14, 23.1: `read_tree` answers and leaves exactly that
 abbrev pub ReadTreeExactly : Type 0
-ReadTreeExactly = (t s : List ℕ) (place line : ℕ) (ns owns : List ℕ) (a : ReadTree) (ns' owns' : List ℕ)
+ReadTreeExactly = (t s : List ℕ) (place line : ℕ) (ns owns : List ℕ) (a : Result ReadTree Misread) (ns' owns' : List ℕ)
     → ReadTreeSays t s place line ns owns a ns' owns' ↔ ReadsTree t s place line ns owns a ns' owns'

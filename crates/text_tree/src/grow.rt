@@ -10,23 +10,23 @@ ghost use Rattle.text_tree.specs.Calls.{ReadTreeSays};
 ghost use Rattle.tree.specs.Tree.{nodes_most};
 
 use crate::ReadTree;
-use refusal::{Refusal, Verdict};
+use refusal::Refusal;
 use table_judge::judge_table;
-use text_frame::{Change, Frame, next_at};
+use text_frame::{Change, Frame, Misread, next_at};
 use tree::{NODES, judge_held};
 
 // A frame where another is expected: its own refusal is passed on, else 14.
 #[tactic(auto, using(crate::proofs::Growing::no_refusal))]
-fn no_node(frame: Frame, line: u32) -> ReadTree
-    ensures { result ≡ tree_answer (stray frame line) }
+fn no_node(frame: Frame, line: u32) -> Misread
+    ensures { Err result ≡ tree_answer (stray frame line) }
 {
     let Frame::Refused { refusal, line: own } = frame else {
-        return ReadTree::Refused {
+        return Misread {
             refusal: Refusal::Frame,
             line: line,
         };
     };
-    ReadTree::Refused {
+    Misread {
         refusal: refusal,
         line: own,
     }
@@ -60,7 +60,7 @@ fn read_nodes(
     line: u32,
     productions: &mut [u8],
     owns: &mut [u64],
-) -> ReadTree
+) -> Result<ReadTree, Misread>
     ensures { (result ≡ tree_answer (nodes_at count text.now place line)) × Stored (nodes_at count text.now place line) productions.old owns.old productions.new owns.new }
 {
     let mut i: usize = 0;
@@ -70,7 +70,7 @@ fn read_nodes(
         let step = next_at(text, at, l);
         let frame = step.frame;
         let Frame::Node { production, own } = frame else {
-            return no_node(frame, l);
+            return Err(no_node(frame, l));
         };
         keep_production(productions, i, production);
         keep_own(owns, i, own);
@@ -78,11 +78,11 @@ fn read_nodes(
         l = step.line;
         i += 1;
     }
-    ReadTree::Read {
+    Ok(ReadTree {
         count: i,
         place: at,
         line: l,
-    }
+    })
 }
 
 // Reads the lines of a load.
@@ -92,16 +92,16 @@ fn read_lines(
     line: u32,
     productions: &mut [u8],
     owns: &mut [u64],
-) -> ReadTree
+) -> Result<ReadTree, Misread>
     ensures { (result ≡ tree_answer (tree_at text.now place line)) × Stored (tree_at text.now place line) productions.old owns.old productions.new owns.new }
 {
     let step = next_at(text, place, line);
     let frame = step.frame;
     let Frame::Change(change) = frame else {
-        return no_node(frame, line);
+        return Err(no_node(frame, line));
     };
     let Change::Load { count } = change else {
-        return no_node(frame, line);
+        return Err(no_node(frame, line));
     };
     let n = count as usize;
     let at = step.place;
@@ -116,25 +116,21 @@ fn judge_read(
     count: usize,
     room: usize,
     room_owns: usize,
-) -> Verdict
+) -> Result<(), Refusal>
     requires { (judge_table table.now ≡ 0) × (nodes_most ≤ length productions.now) }
     ensures { verdict_of result ≡ refusal_by (kept_order table.now productions.now count room room_owns) }
 {
     if NODES < count {
-        return Verdict::Refused(Refusal::Size);
+        return Err(Refusal::Size);
     }
-    match judge_held(table, productions, count, 0) {
-        Verdict::Sound => {
-            if room < count {
-                return Verdict::Refused(Refusal::Buffer);
-            }
-            if room_owns < count {
-                return Verdict::Refused(Refusal::Buffer);
-            }
-            Verdict::Sound
-        }
-        Verdict::Refused(r) => Verdict::Refused(r),
+    judge_held(table, productions, count, 0)?;
+    if room < count {
+        return Err(Refusal::Buffer);
     }
+    if room_owns < count {
+        return Err(Refusal::Buffer);
+    }
+    Ok(())
 }
 
 // Copies the first productions of one's own memory into lent memory.
@@ -169,38 +165,20 @@ fn read_judged(
     line: u32,
     productions: &mut [u8],
     owns: &mut [u64],
-) -> ReadTree
+) -> Result<ReadTree, Misread>
     requires { judge_table table.now ≡ 0 }
     ensures { (result ≡ tree_answer (fitted table.now line (length productions.old) (length owns.old) (tree_at text.now place line))) × ((productions.new ≡ productions_after (fitted table.now line (length productions.old) (length owns.old) (tree_at text.now place line)) productions.old) × (owns.new ≡ owns_after (fitted table.now line (length productions.old) (length owns.old) (tree_at text.now place line)) owns.old)) }
 {
     let mut ps = [0u8; 512];
     let mut os = [0u64; 512];
-    let found = read_lines(text, place, line, &mut ps, &mut os);
-    match found {
-        ReadTree::Read {
-            count,
-            place: rest,
-            line: l,
-        } => match judge_read(table, &ps, count, productions.len(), owns.len()) {
-            Verdict::Sound => {
-                copy_productions(&ps, count, productions);
-                copy_owns(&os, count, owns);
-                ReadTree::Read {
-                    count: count,
-                    place: rest,
-                    line: l,
-                }
-            }
-            Verdict::Refused(r) => ReadTree::Refused {
-                refusal: r,
-                line: line,
-            },
-        },
-        ReadTree::Refused { refusal, line: bad } => ReadTree::Refused {
-            refusal: refusal,
-            line: bad,
-        },
+    let read = read_lines(text, place, line, &mut ps, &mut os)?;
+    let count = read.count;
+    if let Err(refusal) = judge_read(table, &ps, count, productions.len(), owns.len()) {
+        return Err(Misread { refusal, line });
     }
+    copy_productions(&ps, count, productions);
+    copy_owns(&os, count, owns);
+    Ok(read)
 }
 
 // Reads a tree at a place of a text into lent memory: 1 to 5, 13 and 14 over all lines of its command, 8, 6/7, then 15; where it is refused nothing is written.
@@ -211,14 +189,11 @@ pub fn read_tree(
     line: u32,
     productions: &mut [u8],
     owns: &mut [u64],
-) -> ReadTree
+) -> Result<ReadTree, Misread>
     ensures { ReadTreeSays table.now text.now place line productions.old owns.old result productions.new owns.new }
 {
-    match judge_table(table) {
-        Verdict::Sound => read_judged(table, text, place, line, productions, owns),
-        Verdict::Refused(r) => ReadTree::Refused {
-            refusal: r,
-            line: line,
-        },
+    if let Err(refusal) = judge_table(table) {
+        return Err(Misread { refusal, line });
     }
+    read_judged(table, text, place, line, productions, owns)
 }

@@ -7,8 +7,7 @@ ghost use Rattle.text_tree.specs.Text.{tree_text};
 ghost use Rattle.text_tree.specs.Calls.{WriteTreeSays};
 ghost use Rattle.tree.specs.Tree.{nodes_most};
 
-use refusal::{Refusal, Verdict};
-use text_frame::Written;
+use refusal::Refusal;
 use text_line::wide;
 use tree::judge_tree;
 
@@ -49,17 +48,12 @@ pub fn write_tree(
     productions: &[u8],
     owns: &[u64],
     buffer: &mut [u8],
-) -> Written
+) -> Result<usize, Refusal>
     ensures { WriteTreeSays table.now productions.now owns.now buffer.old result buffer.new }
 {
-    match judge_tree(table, productions, owns) {
-        Verdict::Sound => {
-            let n = LOAD_LINE + NODE_LINE * productions.len();
-            if buffer.len() < n {
-                return Written::Refused(Refusal::Buffer);
-            }
-            Written::Length(put_tree(productions, owns, buffer))
-        }
-        Verdict::Refused(r) => Written::Refused(r),
+    judge_tree(table, productions, owns)?;
+    if buffer.len() < LOAD_LINE + NODE_LINE * productions.len() {
+        return Err(Refusal::Buffer);
     }
+    Ok(put_tree(productions, owns, buffer))
 }

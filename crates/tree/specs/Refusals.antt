@@ -1,7 +1,7 @@
 -- The order in which a tree that is handed in is refused. Assumes nothing.
-use Rattle.std.specs.Prelude.{ℕ, ◌≡◌, List, [], ◌∷◌, length}
+use Rattle.std.specs.Prelude.{ℕ, ◌≡◌, List, [], ◌∷◌, length, Result}
 use Rattle.refusal.specs.Numbers.{verdict_of}
-use Rattle.refusal.specs.declared.Verdict.{Verdict}
+use Rattle.refusal.specs.declared.Refusal.{Refusal}
 use Rattle.refusal.specs.Orders.{Check, above, judged, Order, refusal_by}
 use Rattle.table.specs.Judge.{table_check}
 use Rattle.tree.specs.Tree.{nodes_most, judge_tree}
@@ -19,5 +19,5 @@ unfoldable pub tree_refusal : List ℕ → List ℕ → List ℕ → ℕ
 tree_refusal t ns owns = refusal_by (tree_order t ns owns)
 
 -- 15.11: what `judge_tree` says: sound, or the refusal of that number
-abbrev pub JudgeTreeSays : List ℕ → List ℕ → List ℕ → Verdict → Type 0
+abbrev pub JudgeTreeSays : List ℕ → List ℕ → List ℕ → Result (Unit {0}) Refusal → Type 0
 JudgeTreeSays t ns owns a = verdict_of a ≡ tree_refusal t ns owns

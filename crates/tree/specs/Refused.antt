@@ -1,9 +1,8 @@
 -- When nodes that are handed in with own sets are refused, number by number, said without the definitions that judge them. Assumes nothing.
-use Rattle.std.specs.Prelude.{ℕ, ◌≤◌, ◌<◌, ◌≡◌, ◌↔◌, List, [], ◌∷◌, length}
+use Rattle.std.specs.Prelude.{ℕ, ◌≤◌, ◌<◌, ◌≡◌, ◌↔◌, List, [], ◌∷◌, length, Ok, Err}
 use Rattle.refusal.specs.Numbers.{number_of}
 use Rattle.refusal.specs.declared.Refusal.{Refusal}
 use Rattle.refusal.specs.declared.Refusal.TheVariants as why
-use Rattle.refusal.specs.declared.Verdict.TheVariants as verdict
 use Rattle.table.specs.Sound.{Sound}
 use Rattle.table.specs.Refused.{Refused}
 use Rattle.tree.specs.Tree.{nodes_most, judge_tree}
@@ -42,8 +41,8 @@ pub record SoundTree (t ns owns : List ℕ) : Type 0 where
 
 -- 15.2: `judge_tree` refuses it and judges it sound exactly then
 pub record JudgeTreeExactly (t ns owns : List ℕ) : Type 0 where
-  pub refused : (r : Refusal) → JudgeTreeSays t ns owns (verdict.Refused r) ↔ TreeRefused t ns owns r
-  pub sound : JudgeTreeSays t ns owns verdict.Sound ↔ SoundTree t ns owns
+  pub refused : (r : Refusal) → JudgeTreeSays t ns owns (Err r) ↔ TreeRefused t ns owns r
+  pub sound : JudgeTreeSays t ns owns (Ok tt) ↔ SoundTree t ns owns
 
 -- 15.2: whatever the table and the nodes are
 abbrev pub AllTreesExactly : Type 0

@@ -10,19 +10,12 @@ ghost use Rattle.tree.specs.Refusals.{JudgeTreeSays};
 ghost use Rattle.tree.specs.Inner.Says.{Says};
 ghost use Rattle.tree.specs.Inner.Spans.{Numbers, Ended, Spans};
 
-use refusal::{Refusal, Verdict};
+use refusal::Refusal;
 use table::{child_count, child_of, left_of, production_count};
 use table_judge::judge_table;
 
 // So many nodes a tree has at the most.
 pub const NODES: usize = 512;
-
-// Where a walk stands behind what it read, or what is wrong there.
-#[derive(Clone, Copy)]
-pub enum Walk {
-    Behind(usize),
-    Wrong(Refusal),
-}
 
 // A point of a replacement, by its number in a tree, and its new part's count.
 #[derive(Clone, Copy)]
@@ -60,29 +53,40 @@ pub fn index(x: u8) -> usize
     x as usize
 }
 
-// Reads one subtree of `symbol` at `at`: a node, and behind it the row of its children.
+// Reads one subtree of `symbol` at `at`: a node, and behind it the row of its children. Where what it read ends, or what is wrong there.
 #[cycle(row_subtree)]
-fn subtree(table: &[u64; 2657], productions: &[u8], at: usize, symbol: usize) -> Walk
+fn subtree(
+    table: &[u64; 2657],
+    productions: &[u8],
+    at: usize,
+    symbol: usize,
+) -> Result<usize, Refusal>
     requires limits { Limits table.now }
     requires at_in_bounds { at ≤ length productions.now }
     ensures { Says table.now productions.now at (suc at) (symbol ∷ []) result }
 {
     if productions.len() <= at {
-        return Walk::Wrong(Refusal::Shape);
+        return Err(Refusal::Shape);
     }
     let p = index(productions[at]);
     if production_count(table) <= p {
-        return Walk::Wrong(Refusal::Production);
+        return Err(Refusal::Production);
     }
     if left_of(table, p) != symbol {
-        return Walk::Wrong(Refusal::Shape);
+        return Err(Refusal::Shape);
     }
     row(table, productions, at + 1, p, 0)
 }
 
 // Reads the row of a production's children from child `child` on, each by the reading of a subtree. What is unread falls from call to call.
 #[cycle(row_subtree)]
-fn row(table: &[u64; 2657], productions: &[u8], at: usize, production: usize, child: usize) -> Walk
+fn row(
+    table: &[u64; 2657],
+    productions: &[u8],
+    at: usize,
+    production: usize,
+    child: usize,
+) -> Result<usize, Refusal>
     requires limits { Limits table.now }
     requires at_in_bounds { at ≤ length productions.now }
     requires production_bound { production < production_count table.now }
@@ -90,37 +94,31 @@ fn row(table: &[u64; 2657], productions: &[u8], at: usize, production: usize, ch
     ensures { Says table.now productions.now at at (children_from table.now production (child_count table.now production - child) child) result }
 {
     if child_count(table, production) <= child {
-        return Walk::Behind(at);
+        return Ok(at);
     }
     let symbol = child_of(table, production, child);
-    match subtree(table, productions, at, symbol) {
-        Walk::Behind(next) => row(table, productions, next, production, child + 1),
-        Walk::Wrong(r) => Walk::Wrong(r),
-    }
+    let next = subtree(table, productions, at, symbol)?;
+    row(table, productions, next, production, child + 1)
 }
 
 // Judges nodes over a judged table: whether they are one subtree of `symbol`, and nothing behind it.
-pub fn judge_nodes(table: &[u64; 2657], productions: &[u8], symbol: usize) -> Verdict
+pub fn judge_nodes(table: &[u64; 2657], productions: &[u8], symbol: usize) -> Result<(), Refusal>
     requires { Limits table.now }
     ensures { verdict_of result ≡ judge_nodes table.now productions.now (symbol ∷ []) }
 {
-    match subtree(table, productions, 0, symbol) {
-        Walk::Behind(next) => {
-            if productions.len() <= next {
-                return Verdict::Sound;
-            }
-            let over = index(productions[next]);
-            if production_count(table) <= over {
-                return Verdict::Refused(Refusal::Production);
-            }
-            Verdict::Refused(Refusal::Shape)
-        }
-        Walk::Wrong(r) => Verdict::Refused(r),
+    let next = subtree(table, productions, 0, symbol)?;
+    if productions.len() <= next {
+        return Ok(());
     }
+    let over = index(productions[next]);
+    if production_count(table) <= over {
+        return Err(Refusal::Production);
+    }
+    Err(Refusal::Shape)
 }
 
 // The same of the first `n` nodes of a longer slice.
-pub fn judge_held(table: &[u64; 2657], held: &[u8], n: usize, symbol: usize) -> Verdict
+pub fn judge_held(table: &[u64; 2657], held: &[u8], n: usize, symbol: usize) -> Result<(), Refusal>
     requires limits { Limits table.now }
     requires n_in_bounds { n ≤ length held.now }
     ensures { verdict_of result ≡ judge_nodes table.now (take n held.now) (symbol ∷ []) }
@@ -129,21 +127,17 @@ pub fn judge_held(table: &[u64; 2657], held: &[u8], n: usize, symbol: usize) -> 
 }
 
 // Judges a table and a tree that is handed in, whose root is to be of symbol 0.
-pub fn judge_tree(table: &[u64; 2657], productions: &[u8], owns: &[u64]) -> Verdict
+pub fn judge_tree(table: &[u64; 2657], productions: &[u8], owns: &[u64]) -> Result<(), Refusal>
     ensures { JudgeTreeSays table.now productions.now owns.now result }
 {
-    match judge_table(table) {
-        Verdict::Sound => {
-            if NODES < productions.len() {
-                return Verdict::Refused(Refusal::Size);
-            }
-            if productions.len() != owns.len() {
-                return Verdict::Refused(Refusal::Shape);
-            }
-            judge_nodes(table, productions, 0)
-        }
-        Verdict::Refused(r) => Verdict::Refused(r),
+    judge_table(table)?;
+    if NODES < productions.len() {
+        return Err(Refusal::Size);
     }
+    if productions.len() != owns.len() {
+        return Err(Refusal::Shape);
+    }
+    judge_nodes(table, productions, 0)
 }
 
 // The end of node `at`'s subtree, where `ends` has those of the nodes behind it: from child to child.

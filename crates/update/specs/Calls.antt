@@ -1,7 +1,8 @@
 -- The engine's calls, each whole: for any table, tree, record and memory what it answers and what it leaves in the record and in every buffer.
 -- Assumes nothing.
-use Rattle.std.specs.Prelude.{List, [], ◌∷◌, ℕ, zero, suc, ◌+◌, ◌-◌, ◌*◌, length}
+use Rattle.std.specs.Prelude.{Result, Ok, Err, List, [], ◌∷◌, ℕ, zero, suc, ◌+◌, ◌-◌, ◌*◌, length}
 use Rattle.refusal.specs.Numbers.{number_of}
+use Rattle.refusal.specs.declared.Refusal.{Refusal}
 use Rattle.tree.specs.declared.Point.{Point}
 use Rattle.tree.specs.Replace.{part}
 use Rattle.tree.specs.Points.{Part, points_row}
@@ -12,11 +13,9 @@ use Rattle.wire.specs.Instances.{declared, system}
 use Rattle.update.specs.declared.Record.{Record}
 use Rattle.update.specs.declared.Open.TheVariants.{Load, Replacement}
 use Rattle.update.specs.declared.Answer.{Answer}
-use Rattle.update.specs.declared.Answer.TheVariants.{Round, Done, Refused as StepRefused}
+use Rattle.update.specs.declared.Answer.TheVariants.{Round, Done}
 use Rattle.update.specs.declared.Run.{Run}
-use Rattle.update.specs.declared.Run.TheVariants.{Paused, Finished, Refused as RunRefused}
-use Rattle.update.specs.declared.Reading.{Reading}
-use Rattle.update.specs.declared.Reading.TheVariants.{Set, Refused as ReadRefused}
+use Rattle.update.specs.declared.Run.TheVariants.{Paused, Finished}
 use Rattle.update.specs.Records.{opened}
 use Rattle.update.specs.Memories.{Memory, nodes_of, owns_of, loaded, replaced, replaced_row}
 use Rattle.update.specs.Refusals.{load_refusal, replace_refusal, nodes_left, points_refusal, step_refusal, read_refusal}
@@ -28,11 +27,10 @@ pub data Said (A : Type 0) : Type 0 where
   refused : ℕ → Said A
   said : A → Said A
 
--- 10.8, 11.2, 23.10: the number and the values of each answer of a step
+-- 10.8, 11.2, 23.10: the number and the values of each answer of a step that nothing refuses
 abbrev pub answer_says : Answer → Said Outcome
 answer_says (Round least k size closed) = said (round least k size closed)
 answer_says (Done circles evaluations changed) = said (done circles evaluations changed)
-answer_says (StepRefused r) = refused (number_of r)
 
 -- 12.2: the rounds made and how the run ended
 pub record RunOutcome : Type 0 where
@@ -42,16 +40,19 @@ pub record RunOutcome : Type 0 where
 abbrev pub run_outcome : ℕ → Ending → RunOutcome
 run_outcome n e = record { rounds = n; ending = e }
 
--- 12.2, 23.10: the number and the values of each answer of a run
+-- 12.2, 23.10: the number and the values of each answer of a run that nothing refuses
 abbrev pub run_says : Run → Said RunOutcome
 run_says (Paused n) = said (run_outcome n paused)
 run_says (Finished n circles evaluations changed) = said (run_outcome n (finished circles evaluations changed))
-run_says (RunRefused r) = refused (number_of r)
 
--- 13.1, 23.10: and of each answer of a reading
-abbrev pub reading_says : Reading → Said ℕ
-reading_says (Set v) = said v
-reading_says (ReadRefused r) = refused (number_of r)
+-- 15.1, 23.10: what a call answers, where `Says` gives the values of what it was asked for; and its refusal's number
+abbrev pub call_says : {A B : Type 0} → (A → Said B) → Result A Refusal → Said B
+call_says Says (Ok a) = Says a
+call_says Says (Err r) = refused (number_of r)
+
+-- 13.1, 23.10: the number and the value of each answer of a reading
+abbrev pub reading_says : Result ℕ Refusal → Said ℕ
+reading_says = call_says said
 
 -- ---- what a call comes to
 

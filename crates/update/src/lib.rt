@@ -5,7 +5,6 @@ ghost use Rattle.std.specs.Prelude.{◌≡◌};
 ghost use Rattle.update.specs.Records.{EmptySays, is_open_kind};
 
 use circles::SLOTS;
-use refusal::Refusal;
 use tree::Point;
 
 // Which update is open: none, a load, a replacement.
@@ -78,7 +77,7 @@ pub fn is_open(open: Open) -> bool
     }
 }
 
-// What a step answers: the round that it made, by its circle's least instance, or the numbers at done, or why not.
+// What a step answers where nothing refuses it: the round that it made, by its circle's least instance, or the numbers at done.
 #[derive(Clone, Copy)]
 pub enum Answer {
     Round {
@@ -92,10 +91,9 @@ pub enum Answer {
         evaluations: u64,
         changed: u64,
     },
-    Refused(Refusal),
 }
 
-// What a run answers: the rounds made, and done's numbers if it came to done, or why not.
+// What a run answers where nothing refuses it: the rounds made, and done's numbers if it came to done.
 #[derive(Clone, Copy)]
 pub enum Run {
     Paused {
@@ -107,12 +105,4 @@ pub enum Run {
         evaluations: u64,
         changed: u64,
     },
-    Refused(Refusal),
-}
-
-// What a reading answers.
-#[derive(Clone, Copy)]
-pub enum Reading {
-    Set(u64),
-    Refused(Refusal),
 }

@@ -12,27 +12,27 @@ ghost use Rattle.update_judge.specs.Order.{named_order, fit_order};
 ghost use Rattle.refusal.specs.Orders.{refusal_by};
 
 use crate::trees::part_of;
-use refusal::{Refusal, Verdict};
+use refusal::Refusal;
 use table::left_of;
 use tree::{Cut, Cuts, Places, Point, index, judge_nodes};
 use update::{Record, is_open};
 
 // 10, 22.
-pub fn judge_asked(record: Record, points: Places) -> Verdict
+pub fn judge_asked(record: Record, points: Places) -> Result<(), Refusal>
     ensures { verdict_of result ≡ refusal_by (asked_order «record» (bare_row (named_points points))) }
 {
     let open = record.open;
     if is_open(open) {
-        return Verdict::Refused(Refusal::Busy);
+        return Err(Refusal::Busy);
     }
     let count = points.count;
     if count == 0 {
-        return Verdict::Refused(Refusal::Points);
+        return Err(Refusal::Points);
     }
     if Record::POINTS < count {
-        return Verdict::Refused(Refusal::Points);
+        return Err(Refusal::Points);
     }
-    Verdict::Sound
+    Ok(())
 }
 
 // Whether a point isn't below the node count.
@@ -54,21 +54,17 @@ fn is_missing(points: Places, nodes: usize) -> bool
 }
 
 // What a replacement is refused by where a tree that is held is sound, before its subtrees are counted: 10, 22, 16, 9.
-pub fn judge_named(record: Record, points: Places) -> Verdict
+pub fn judge_named(record: Record, points: Places) -> Result<(), Refusal>
     ensures { verdict_of result ≡ refusal_by (named_order «record» (bare_row (named_points points))) }
 {
-    match judge_asked(record, points) {
-        Verdict::Sound => {
-            if record.held {
-                if is_missing(points, record.nodes) {
-                    return Verdict::Refused(Refusal::Point);
-                }
-                return Verdict::Sound;
-            }
-            Verdict::Refused(Refusal::Absent)
-        }
-        Verdict::Refused(r) => Verdict::Refused(r),
+    judge_asked(record, points)?;
+    if !record.held {
+        return Err(Refusal::Absent);
     }
+    if is_missing(points, record.nodes) {
+        return Err(Refusal::Point);
+    }
+    Ok(())
 }
 
 // A point's cut: its subtree is counted.
@@ -186,7 +182,7 @@ fn is_passing(nodes: usize, cuts: Cuts) -> bool
 }
 
 // The part of one cut, which begins at `at`: its root is to have the symbol of the node that it replaces.
-fn judge_cut(table: &[u64; 2657], tree: &[u8], cut: Cut, new: &[u8], at: usize) -> Verdict
+fn judge_cut(table: &[u64; 2657], tree: &[u8], cut: Cut, new: &[u8], at: usize) -> Result<(), Refusal>
     requires limits { Limits table.now }
     requires numbered { Numbered table.now tree.now }
     requires node_in_bounds { (cut.node < length tree.now) × (at + cut.count ≤ length new.now) }
@@ -200,7 +196,7 @@ fn judge_cut(table: &[u64; 2657], tree: &[u8], cut: Cut, new: &[u8], at: usize) 
 }
 
 // The parts in their order.
-fn judge_parts(table: &[u64; 2657], tree: &[u8], cuts: Cuts, new: &[u8]) -> Verdict
+fn judge_parts(table: &[u64; 2657], tree: &[u8], cuts: Cuts, new: &[u8]) -> Result<(), Refusal>
     requires limits { Limits table.now }
     requires numbered { Numbered table.now tree.now }
     requires small { Small (length tree.now) cuts }
@@ -213,15 +209,11 @@ fn judge_parts(table: &[u64; 2657], tree: &[u8], cuts: Cuts, new: &[u8]) -> Verd
     let mut i = 0;
     while i < count {
         let cut = list[i];
-        match judge_cut(table, tree, cut, new, at) {
-            Verdict::Sound => {
-                at += cut.count;
-                i += 1;
-            }
-            Verdict::Refused(r) => return Verdict::Refused(r),
-        }
+        judge_cut(table, tree, cut, new, at)?;
+        at += cut.count;
+        i += 1;
     }
-    Verdict::Sound
+    Ok(())
 }
 
 // What a replacement is refused by where its points are nodes of a sound tree: 23, 8, the parts' 6/7. Where nodes or own sets are missing or left over it is 7 as
@@ -233,22 +225,22 @@ pub fn judge_row(
     cuts: Cuts,
     new: &[u8],
     new_owns: &[u64],
-) -> Verdict
+) -> Result<(), Refusal>
     requires { Aimed table.now tree.now points cuts }
     ensures { verdict_of result ≡ refusal_by (fit_order table.now tree.now (length tree.now) (handed_row (named_points points) new.now new_owns.now)) }
 {
     if is_meeting(cuts) {
-        return Verdict::Refused(Refusal::Overlap);
+        return Err(Refusal::Overlap);
     }
     if is_passing(tree.len(), cuts) {
-        return Verdict::Refused(Refusal::Size);
+        return Err(Refusal::Size);
     }
     let count = count_coming(cuts);
     if new.len() != count {
-        return Verdict::Refused(Refusal::Shape);
+        return Err(Refusal::Shape);
     }
     if new_owns.len() != count {
-        return Verdict::Refused(Refusal::Shape);
+        return Err(Refusal::Shape);
     }
     judge_parts(table, tree, cuts, new)
 }

@@ -9,7 +9,7 @@ ghost use Rattle.refusal.specs.Orders.{refusal_by};
 
 use crate::limits::is_beyond;
 use crate::points::judge_asked;
-use refusal::{Refusal, Verdict};
+use refusal::Refusal;
 use table_judge::judge_table;
 use tree::{Places, judge_held, judge_nodes};
 use update::{Record, is_open};
@@ -41,51 +41,46 @@ pub fn judge_ground(
     held_owns: &[u64],
     sets: &[u64],
     earlier: &[u64],
-) -> Verdict
+) -> Result<(), Refusal>
     ensures { verdict_of result ≡ refusal_by (ground_order table.now (lent held.now held_owns.now sets.now earlier.now) «record») }
 {
     if is_short(held, held_owns, sets, earlier) {
-        return Verdict::Refused(Refusal::Buffer);
+        return Err(Refusal::Buffer);
     }
-    match judge_table(table) {
-        Verdict::Sound => {
-            if is_beyond(record) {
-                return Verdict::Refused(Refusal::Fields);
-            }
-            Verdict::Sound
-        }
-        Verdict::Refused(r) => Verdict::Refused(r),
+    judge_table(table)?;
+    if is_beyond(record) {
+        return Err(Refusal::Fields);
     }
+    Ok(())
 }
 
 // What a load is refused by behind that: 10, 8, 6/7.
-pub fn judge_load(table: &[u64; 2657], record: Record, productions: &[u8], owns: &[u64]) -> Verdict
+pub fn judge_load(table: &[u64; 2657], record: Record, productions: &[u8], owns: &[u64]) -> Result<(), Refusal>
     requires { judge_table table.now ≡ 0 }
     ensures { verdict_of result ≡ refusal_by (new_order table.now «record» productions.now owns.now) }
 {
-    let open = record.open;
-    if is_open(open) {
-        return Verdict::Refused(Refusal::Busy);
+    if is_open(record.open) {
+        return Err(Refusal::Busy);
     }
     if Record::NODES < productions.len() {
-        return Verdict::Refused(Refusal::Size);
+        return Err(Refusal::Size);
     }
     if productions.len() != owns.len() {
-        return Verdict::Refused(Refusal::Shape);
+        return Err(Refusal::Shape);
     }
     judge_nodes(table, productions, 0)
 }
 
 // 16, and the held tree's 6/7.
-pub fn judge_holding(table: &[u64; 2657], record: Record, held: &[u8], held_owns: &[u64]) -> Verdict
+pub fn judge_holding(table: &[u64; 2657], record: Record, held: &[u8], held_owns: &[u64]) -> Result<(), Refusal>
     requires table_value { judge_table table.now ≡ 0 }
     requires record_in_bounds { («record».nodes ≤ length held.now) × («record».nodes ≤ length held_owns.now) }
     ensures { verdict_of result ≡ refusal_by (held_order table.now held.now held_owns.now «record») }
 {
-    if record.held {
-        return judge_held(table, held, record.nodes, 0);
+    if !record.held {
+        return Err(Refusal::Absent);
     }
-    Verdict::Refused(Refusal::Absent)
+    judge_held(table, held, record.nodes, 0)
 }
 
 // What a look at the held tree is refused by: what every call is first, then 10, 16, the tree's 6/7.
@@ -96,19 +91,14 @@ pub fn judge_look(
     held_owns: &[u64],
     sets: &[u64],
     earlier: &[u64],
-) -> Verdict
+) -> Result<(), Refusal>
     ensures { verdict_of result ≡ refusal_by (look_order table.now (lent held.now held_owns.now sets.now earlier.now) «record») }
 {
-    match judge_ground(table, record, held, held_owns, sets, earlier) {
-        Verdict::Sound => {
-            let open = record.open;
-            if is_open(open) {
-                return Verdict::Refused(Refusal::Busy);
-            }
-            judge_holding(table, record, held, held_owns)
-        }
-        Verdict::Refused(r) => Verdict::Refused(r),
+    judge_ground(table, record, held, held_owns, sets, earlier)?;
+    if is_open(record.open) {
+        return Err(Refusal::Busy);
     }
+    judge_holding(table, record, held, held_owns)
 }
 
 // What a replacement is refused by before its points are looked at: 15, 1 to 5, 11, 10, 22, 16, the held tree's 6/7.
@@ -120,34 +110,25 @@ pub fn judge_aim(
     held_owns: &[u64],
     sets: &[u64],
     earlier: &[u64],
-) -> Verdict
+) -> Result<(), Refusal>
     ensures { verdict_of result ≡ refusal_by (aim_order table.now (lent held.now held_owns.now sets.now earlier.now) «record» (bare_row (named_points points))) }
 {
-    match judge_ground(table, record, held, held_owns, sets, earlier) {
-        Verdict::Sound => match judge_asked(record, points) {
-            Verdict::Sound => judge_holding(table, record, held, held_owns),
-            Verdict::Refused(r) => Verdict::Refused(r),
-        },
-        Verdict::Refused(r) => Verdict::Refused(r),
-    }
+    judge_ground(table, record, held, held_owns, sets, earlier)?;
+    judge_asked(record, points)?;
+    judge_holding(table, record, held, held_owns)
 }
 
 // 16, the held tree's 6/7, 17.
-fn judge_going(table: &[u64; 2657], record: Record, held: &[u8], held_owns: &[u64]) -> Verdict
+fn judge_going(table: &[u64; 2657], record: Record, held: &[u8], held_owns: &[u64]) -> Result<(), Refusal>
     requires table_value { judge_table table.now ≡ 0 }
     requires record_in_bounds { («record».nodes ≤ length held.now) × («record».nodes ≤ length held_owns.now) }
     ensures { verdict_of result ≡ refusal_by (going_order table.now held.now held_owns.now «record») }
 {
-    match judge_holding(table, record, held, held_owns) {
-        Verdict::Sound => {
-            let open = record.open;
-            if is_open(open) {
-                return Verdict::Sound;
-            }
-            Verdict::Refused(Refusal::Idle)
-        }
-        Verdict::Refused(r) => Verdict::Refused(r),
+    judge_holding(table, record, held, held_owns)?;
+    if is_open(record.open) {
+        return Ok(());
     }
+    Err(Refusal::Idle)
 }
 
 // What a step and a run are refused by: what every call is first, then 16, the tree's 6/7, 17.
@@ -158,11 +139,9 @@ pub fn judge_step(
     held_owns: &[u64],
     sets: &[u64],
     earlier: &[u64],
-) -> Verdict
+) -> Result<(), Refusal>
     ensures { verdict_of result ≡ step_refusal table.now (lent held.now held_owns.now sets.now earlier.now) «record» }
 {
-    match judge_ground(table, record, held, held_owns, sets, earlier) {
-        Verdict::Sound => judge_going(table, record, held, held_owns),
-        Verdict::Refused(r) => Verdict::Refused(r),
-    }
+    judge_ground(table, record, held, held_owns, sets, earlier)?;
+    judge_going(table, record, held, held_owns)
 }

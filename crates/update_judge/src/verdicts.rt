@@ -11,7 +11,7 @@ ghost use Rattle.update.specs.Refusals.{new_order, waiver_order};
 use crate::points::judge_row;
 use crate::refuse::judge_load;
 use crate::waivers::{waives_then, waives_tree};
-use refusal::{Refusal, Verdict};
+use refusal::Refusal;
 use tree::{Cuts, Places};
 use update::Record;
 
@@ -21,19 +21,15 @@ pub fn judge_loaded(
     record: Record,
     productions: &[u8],
     owns: &[u64],
-) -> Verdict
+) -> Result<(), Refusal>
     requires { judge_table table.now ≡ 0 }
     ensures { verdict_of result ≡ refusal_by (new_order table.now «record» productions.now owns.now ++ waiver_order table.now productions.now) }
 {
-    match judge_load(table, record, productions, owns) {
-        Verdict::Sound => {
-            if waives_tree(table, productions) {
-                return Verdict::Refused(Refusal::Waiver);
-            }
-            Verdict::Sound
-        }
-        Verdict::Refused(r) => Verdict::Refused(r),
+    judge_load(table, record, productions, owns)?;
+    if waives_tree(table, productions) {
+        return Err(Refusal::Waiver);
     }
+    Ok(())
 }
 
 // And a replacement at nodes of a sound tree, by its points, its parts and the tree that it would leave: 23, 8, 6/7, 21.
@@ -44,17 +40,13 @@ pub fn judge_replaced(
     cuts: Cuts,
     new: &[u8],
     new_owns: &[u64],
-) -> Verdict
+) -> Result<(), Refusal>
     requires { Aimed table.now tree.now points cuts }
     ensures { verdict_of result ≡ refusal_by (last_order table.now tree.now (handed_row (named_points points) new.now new_owns.now)) }
 {
-    match judge_row(table, tree, points, cuts, new, new_owns) {
-        Verdict::Sound => {
-            if waives_then(table, tree, cuts, new) {
-                return Verdict::Refused(Refusal::Waiver);
-            }
-            Verdict::Sound
-        }
-        Verdict::Refused(r) => Verdict::Refused(r),
+    judge_row(table, tree, points, cuts, new, new_owns)?;
+    if waives_then(table, tree, cuts, new) {
+        return Err(Refusal::Waiver);
     }
+    Ok(())
 }

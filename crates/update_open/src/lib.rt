@@ -10,18 +10,11 @@ ghost use Rattle.update_open.specs.Lent.{LoadLeaves, PointsLeave, ReplaceLeaves}
 ghost use Rattle.update_open.specs.Inner.Placed.{point_of, placed, opened_at, Shiftable};
 ghost use Rattle.update.specs.Memories.{lent};
 
-use refusal::Verdict;
+use refusal::Refusal;
 use tree::{Cuts, Places, Point};
 use update::{Open, Record};
 use update_judge::{cuts_of, judge_aim, judge_ground, judge_loaded, judge_named, judge_replaced};
 use update_place::placing::{place_row, place_tree};
-
-// What a load or a replacement answers, and the record that it leaves.
-#[derive(Clone, Copy)]
-pub struct Begun {
-    pub verdict: Verdict,
-    pub record: Record,
-}
 
 // One point, as a call names it or a load's record has it.
 fn one_point(node: usize, count: usize) -> Places
@@ -95,25 +88,14 @@ pub fn load_judged(
     held_owns: &mut [u64],
     sets: &mut [u64],
     earlier: &mut [u64],
-) -> Begun
+) -> Result<Record, Refusal>
     requires { Grounded table.now (lent held.old held_owns.old sets.old earlier.old) «record» }
     ensures { LoadLeaves table.now (lent held.old held_owns.old sets.old earlier.old) «record» productions.now owns.now result (lent held.new held_owns.new sets.new earlier.new) }
 {
-    match judge_loaded(table, record, productions, owns) {
-        Verdict::Sound => {
-            place_tree(productions, owns, held, held_owns, sets, earlier);
-            let nodes = productions.len();
-            let next = just_opened(Open::Load, nodes, one_point(0, nodes));
-            Begun {
-                verdict: Verdict::Sound,
-                record: next,
-            }
-        }
-        Verdict::Refused(r) => Begun {
-            verdict: Verdict::Refused(r),
-            record: record,
-        },
-    }
+    judge_loaded(table, record, productions, owns)?;
+    place_tree(productions, owns, held, held_owns, sets, earlier);
+    let nodes = productions.len();
+    Ok(just_opened(Open::Load, nodes, one_point(0, nodes)))
 }
 
 // A load: places a whole tree, empties every set and opens an update.
@@ -126,25 +108,20 @@ pub fn load(
     held_owns: &mut [u64],
     sets: &mut [u64],
     earlier: &mut [u64],
-) -> Begun
+) -> Result<Record, Refusal>
     ensures { LoadLeaves table.now (lent held.old held_owns.old sets.old earlier.old) «record» productions.now owns.now result (lent held.new held_owns.new sets.new earlier.new) }
 {
-    match judge_ground(table, record, &*held, &*held_owns, &*sets, &*earlier) {
-        Verdict::Sound => load_judged(
-            table,
-            record,
-            productions,
-            owns,
-            held,
-            held_owns,
-            sets,
-            earlier,
-        ),
-        Verdict::Refused(r) => Begun {
-            verdict: Verdict::Refused(r),
-            record: record,
-        },
-    }
+    judge_ground(table, record, held, held_owns, sets, earlier)?;
+    load_judged(
+        table,
+        record,
+        productions,
+        owns,
+        held,
+        held_owns,
+        sets,
+        earlier,
+    )
 }
 
 // A replacement at nodes of a sound tree that is held, with no update open.
@@ -158,7 +135,7 @@ fn exchange_row(
     held_owns: &mut [u64],
     sets: &mut [u64],
     earlier: &mut [u64],
-) -> Begun
+) -> Result<Record, Refusal>
     requires grounded { Grounded table.now (lent held.old held_owns.old sets.old earlier.old) «record» }
     requires held_sound { held_refusal table.now (lent held.old held_owns.old sets.old earlier.old) «record» ≡ 0 }
     requires named { Named «record» (bare_row (named_points points)) }
@@ -166,22 +143,15 @@ fn exchange_row(
 {
     let nodes = record.nodes;
     let cuts = cuts_of(table, &held[..nodes], points);
-    match judge_replaced(table, &held[..nodes], points, cuts, new, new_owns) {
-        Verdict::Sound => {
-            let count = place_row(
-                table, nodes, points, cuts, new, new_owns, held, held_owns, sets, earlier,
-            );
-            let next = just_opened(Open::Replacement, count, shift_points(cuts));
-            Begun {
-                verdict: Verdict::Sound,
-                record: next,
-            }
-        }
-        Verdict::Refused(r) => Begun {
-            verdict: Verdict::Refused(r),
-            record: record,
-        },
-    }
+    judge_replaced(table, &held[..nodes], points, cuts, new, new_owns)?;
+    let count = place_row(
+        table, nodes, points, cuts, new, new_owns, held, held_owns, sets, earlier,
+    );
+    Ok(just_opened(
+        Open::Replacement,
+        count,
+        shift_points(cuts),
+    ))
 }
 
 // A replacement at several points over a judged table, buffers that are long enough, a record within its limits and a tree that is sound if held.
@@ -195,19 +165,14 @@ pub fn replace_points_judged(
     held_owns: &mut [u64],
     sets: &mut [u64],
     earlier: &mut [u64],
-) -> Begun
+) -> Result<Record, Refusal>
     requires { Holding table.now (lent held.old held_owns.old sets.old earlier.old) «record» }
     ensures { PointsLeave table.now (lent held.old held_owns.old sets.old earlier.old) «record» points new.now new_owns.now result (lent held.new held_owns.new sets.new earlier.new) }
 {
-    match judge_named(record, points) {
-        Verdict::Sound => exchange_row(
-            table, record, points, new, new_owns, held, held_owns, sets, earlier,
-        ),
-        Verdict::Refused(r) => Begun {
-            verdict: Verdict::Refused(r),
-            record: record,
-        },
-    }
+    judge_named(record, points)?;
+    exchange_row(
+        table, record, points, new, new_owns, held, held_owns, sets, earlier,
+    )
 }
 
 // A replacement at one to eight points, by their numbers in the tree as it was. The parts lie one behind the other in `new` and `new_owns`.
@@ -221,26 +186,13 @@ pub fn replace_points(
     held_owns: &mut [u64],
     sets: &mut [u64],
     earlier: &mut [u64],
-) -> Begun
+) -> Result<Record, Refusal>
     ensures { PointsLeave table.now (lent held.old held_owns.old sets.old earlier.old) «record» points new.now new_owns.now result (lent held.new held_owns.new sets.new earlier.new) }
 {
-    match judge_aim(
-        table,
-        record,
-        points,
-        &*held,
-        &*held_owns,
-        &*sets,
-        &*earlier,
-    ) {
-        Verdict::Sound => replace_points_judged(
-            table, record, points, new, new_owns, held, held_owns, sets, earlier,
-        ),
-        Verdict::Refused(r) => Begun {
-            verdict: Verdict::Refused(r),
-            record: record,
-        },
-    }
+    judge_aim(table, record, points, held, held_owns, sets, earlier)?;
+    replace_points_judged(
+        table, record, points, new, new_owns, held, held_owns, sets, earlier,
+    )
 }
 
 // A replacement at one point where all that is judged.
@@ -254,7 +206,7 @@ pub fn replace_judged(
     held_owns: &mut [u64],
     sets: &mut [u64],
     earlier: &mut [u64],
-) -> Begun
+) -> Result<Record, Refusal>
     requires { Holding table.now (lent held.old held_owns.old sets.old earlier.old) «record» }
     ensures { ReplaceLeaves table.now (lent held.old held_owns.old sets.old earlier.old) «record» point new.now new_owns.now result (lent held.new held_owns.new sets.new earlier.new) }
 {
@@ -275,7 +227,7 @@ pub fn replace(
     held_owns: &mut [u64],
     sets: &mut [u64],
     earlier: &mut [u64],
-) -> Begun
+) -> Result<Record, Refusal>
     ensures { ReplaceLeaves table.now (lent held.old held_owns.old sets.old earlier.old) «record» point new.now new_owns.now result (lent held.new held_owns.new sets.new earlier.new) }
 {
     let points = one_point(point, new.len());
