@@ -33,6 +33,9 @@ const LEFT: u64 = 1_099_511_627_776;
 
 const COUNT: u64 = 4_294_967_296;
 
+// So many values a byte has.
+const BYTE: u64 = 256;
+
 // A word as an index.
 pub fn number(x: u64) -> usize
     ensures { result ≡ x }
@@ -83,21 +86,16 @@ pub fn child_count(table: &[u64; WORDS], p: usize) -> usize
     requires { p < 64 }
     ensures { result ≡ child_count table.now p }
 {
-    (table[PRODUCTIONS + p] / COUNT % 256) as usize
+    (table[PRODUCTIONS + p] / COUNT % BYTE) as usize
 }
 
+// The symbol of a child: of the four bytes below the count the first child's is the highest.
 #[tactic(auto, unfolding(crate::specs::Words::child_of))]
 pub fn child_of(table: &[u64; WORDS], p: usize, k: usize) -> usize
     requires { (p < 64) × (k < 4) }
     ensures { result ≡ child_of table.now p k }
 {
-    let word = table[PRODUCTIONS + p];
-    match k {
-        0 => number(word / 16_777_216 % 256),
-        1 => number(word / 65_536 % 256),
-        2 => number(word / 256 % 256),
-        _ => number(word % 256),
-    }
+    ((table[PRODUCTIONS + p] >> (24 - 8 * k)) % BYTE) as usize
 }
 
 // The symbol at a position of a production.
