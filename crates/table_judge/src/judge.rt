@@ -74,13 +74,8 @@ fn is_foreign(table: &[u64; WORDS], p: usize) -> bool
     ensures { result ≡ symbol_wrong table.now (production p) }
 {
     let symbols = symbol_count(table);
-    let count = child_count(table, p);
-    for q in 0..=count {
-        if symbols <= symbol_at(table, p, q) {
-            return true;
-        }
-    }
-    false
+    let positions = child_count(table, p) + 1;
+    (0..positions).any(|q| symbols <= symbol_at(table, p, q))
 }
 
 // A production's frame.
