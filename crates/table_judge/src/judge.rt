@@ -55,7 +55,7 @@ pub fn judge_symbol(table: &[u64; WORDS], s: usize) -> Result<(), Refusal>
     Ok(())
 }
 
-#[tactic(auto, using(refusal::proofs::Distinct::handed_number, table::proofs::Steps::stops, table::proofs::FirstLaws::scan_zero, table::proofs::FirstLaws::scan_step))]
+#[tactic(auto, using(table::proofs::Steps::turns))]
 fn judge_symbols(table: &[u64; WORDS]) -> Result<(), Refusal>
     requires { symbol_count table.now ≤ 32 }
     ensures { verdict_of result ≡ symbols_of table.now }
@@ -126,7 +126,7 @@ pub fn judge_equation(table: &[u64; WORDS], p: usize, q: usize, k: usize) -> Res
 }
 
 // The equations of one position of a production.
-#[tactic(auto, using(refusal::proofs::Distinct::handed_number, table::proofs::Steps::stops, table::proofs::FirstLaws::scan_zero, table::proofs::FirstLaws::scan_step))]
+#[tactic(auto, using(table::proofs::Steps::turns))]
 fn judge_position(table: &[u64; WORDS], p: usize, q: usize) -> Result<(), Refusal>
     requires p_bound { p < 64 }
     requires shaped { Shaped table.now p }
@@ -141,7 +141,7 @@ fn judge_position(table: &[u64; WORDS], p: usize, q: usize) -> Result<(), Refusa
 }
 
 // All equations of a production.
-#[tactic(auto, using(refusal::proofs::Distinct::handed_number, table::proofs::Steps::stops, table::proofs::FirstLaws::scan_zero, table::proofs::FirstLaws::scan_step, table::proofs::FirstLaws::scan_last))]
+#[tactic(auto, using(table::proofs::Steps::turns))]
 fn judge_equations(table: &[u64; WORDS], p: usize) -> Result<(), Refusal>
     requires p_bound { p < 64 }
     requires shaped { Shaped table.now p }
@@ -164,7 +164,7 @@ fn judge_part(table: &[u64; WORDS], p: usize) -> Result<(), Refusal>
     judge_equations(table, p)
 }
 
-#[tactic(auto, using(refusal::proofs::Distinct::handed_number, table::proofs::Steps::stops, table::proofs::FirstLaws::scan_zero, table::proofs::FirstLaws::scan_step))]
+#[tactic(auto, using(table::proofs::Steps::turns))]
 fn judge_productions(table: &[u64; WORDS]) -> Result<(), Refusal>
     requires { Symbols table.now }
     ensures { verdict_of result ≡ productions_of table.now }
@@ -177,7 +177,7 @@ fn judge_productions(table: &[u64; WORDS]) -> Result<(), Refusal>
 }
 
 // The table: its frames in order.
-#[tactic(auto, using(refusal::proofs::Distinct::handed_number, table::proofs::Steps::or_stops, table::proofs::Parts::judge_parts))]
+#[tactic(auto, using(table::proofs::Steps::turns, table::proofs::Parts::judge_parts))]
 pub fn judge_table(table: &[u64; WORDS]) -> Result<(), Refusal>
     ensures { JudgeTableSays table.now result }
 {
