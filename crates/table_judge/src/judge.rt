@@ -2,7 +2,7 @@
 ghost use Rattle.std.specs.Prelude.{◌≡◌, ◌<◌, ◌≤◌};
 ghost use Rattle.refusal.specs.Numbers.{verdict_of};
 ghost use Rattle.table.specs.Words.{symbol_count, child_count};
-ghost use Rattle.table.specs.Judge.{header, symbol, production, equation, outside, symbol_wrong, misnamed, refusal_at, JudgeTableSays};
+ghost use Rattle.table.specs.Judge.{header, symbol, production, equation, symbol_wrong, misnamed, refusal_at, JudgeTableSays};
 ghost use Rattle.table.specs.Inner.Parts.{symbols_of, position_of, equations_of, part_number, productions_of};
 ghost use Rattle.table.specs.Shape.{Symbols, Shaped};
 
@@ -20,19 +20,13 @@ const PRODUCTIONS_MOST: usize = 64;
 
 const CHILDREN_MOST: usize = 4;
 
-fn is_outside(low: usize, high: usize, n: usize) -> bool
-    ensures { result ≡ outside low high n }
-{
-    n < low || high < n
-}
-
 // The header's frame.
 #[tactic(auto, unfolding(table::specs::Judge::refusal_at))]
 pub fn judge_header(table: &[u64; WORDS]) -> Result<(), Refusal>
     ensures { verdict_of result ≡ refusal_at table.now header }
 {
-    if is_outside(1, SYMBOLS_MOST, symbol_count(table))
-        || is_outside(1, PRODUCTIONS_MOST, production_count(table))
+    if !(1..=SYMBOLS_MOST).contains(&symbol_count(table))
+        || !(1..=PRODUCTIONS_MOST).contains(&production_count(table))
     {
         return Err(Refusal::Count);
     }
