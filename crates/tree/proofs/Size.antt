@@ -2,10 +2,9 @@
 use Prim.Native.Nat.{ℕ, zero, suc, ◌+◌, ◌≤◌, ◌<◌, ◌-◌}
 use mathlib.Core.Path.{◌≡◌, refl, ap, sym, ◌∙◌}
 use mathlib.Core.List.{List, [], ◌∷◌}
-use lib.ListN.{length, get_or, drop, set, length-drop, drop_of_length-le}
-use mathlib.Core.Logic.{⊎_elim}
-use lib.Seq.{drop-cons, drop-drop, get_or-set_same, get_or-set_other}
-use native.Mathlib.Nat.{eq-or-lt_of_le, zero-add, suc-add, add-zero, add_assoc}
+use lib.ListN.{length, get_or, drop, length-drop, drop_of_length-le}
+use lib.Seq.{drop-cons, drop-drop}
+use native.Mathlib.Nat.{zero-add, suc-add, add-zero, add_assoc}
 use native.Mathlib.Numerals.{add-one}
 use native.Mathlib.Omega.{arith}
 use Rattle.table.specs.Words.{child_count}
@@ -60,13 +59,17 @@ module _ (t : List ℕ) where
     unfolding child_at
     child_le n k h = omega (arith, size_le (drop (suc n) ns) k, length-drop (suc n) ns)
 
--- the walk over a node's children: where it begins, behind child k child k + 1, and its end behind the last child
+-- one turn of the walk over a node's children: behind child k is child k + 1
+pub turn_in : (t ns ends : List ℕ) (at k next : ℕ) → next ≡ child_at t ns at k → Ended t ns (at + 1) ends → next < length ns → get_or ends next 0 ≡ child_at t ns at (k + 1)
+turn_in t ns ends at k next e f h = rw (add-one, child_next) (f next (omega (arith, child_after t ns at k)) h ∙ ap (span_end t ns) e)
+
+-- the walk: where it begins, a turn, and its end behind the last child
 module _ (t ns : List ℕ) (at : ℕ) where
   pub turn_first : at + 1 ≡ child_at t ns at 0
   turn_first = add-one at ∙ sym (child_first t ns at)
 
-  pub turn_in : (ends : List ℕ) (k next new : ℕ) → new ≡ get_or ends next 0 → next ≡ child_at t ns at k → Ended t ns (at + 1) ends → next < length ns → new ≡ child_at t ns at (k + 1)
-  turn_in ends k next new d e f h = d ∙ rw (add-one, child_next) (f next (omega (arith, child_after t ns at k)) h ∙ ap (span_end t ns) e)
+  pub turn_next : (ends : List ℕ) (k next new : ℕ) → new ≡ get_or ends next 0 → next ≡ child_at t ns at k → Ended t ns (at + 1) ends → next < length ns → new ≡ child_at t ns at (k + 1)
+  turn_next ends k next new d e f h = d ∙ turn_in t ns ends at k next e f h
 
   pub turn_last : (p next count : ℕ) → at < length ns → p ≡ get_or ns at 0 → count ≡ child_count t p → next ≡ child_at t ns at count → next ≡ span_end t ns at
   turn_last p next count h e f i = i ∙ ap (child_at t ns at) (f ∙ ap (child_count t) e) ∙ sym (end_node t ns at h)
@@ -81,11 +84,3 @@ module _ (t ns : List ℕ) (at : ℕ) where
   turn_out p k next count h e f i l o =
       let z : count - k + k ≡ count = omega arith in
       turn_last p next count h e f (rw z at (out k next i o (count - k)))
-
--- one more end, written in front of those that are there
-module _ (t ns ends : List ℕ) (at : ℕ) (h : at < length ends) where
-  pub ended_more : Ended t ns (at + 1) ends → Ended t ns at (set ends at (span_end t ns at))
-  ended_more f n le lt = ⊎_elim
-      (λ e. rw (← e) (get_or-set_same ends at (span_end t ns at) 0 h))
-      (λ l. get_or-set_other ends at n (span_end t ns at) 0 (λ e. omega arith) ∙ f n (omega arith) lt)
-      (eq-or-lt_of_le le)

@@ -141,7 +141,7 @@ pub fn judge_tree(table: &[u64; WORDS], productions: &[u8], owns: &[u64]) -> Res
 }
 
 // The end of node `at`'s subtree, where `ends` has those of the nodes behind it: from child to child.
-#[tactic(auto, using(crate::proofs::Size::turn_first, crate::proofs::Size::turn_in, crate::proofs::Size::turn_last))]
+#[tactic(auto, using(crate::proofs::Size::turn_first, crate::proofs::Size::turn_next, crate::proofs::Size::turn_last))]
 fn end_of(table: &[u64; WORDS], productions: &[u8], ends: &[u16], at: usize) -> usize
     requires at_in_bounds { at < length productions.now }
     requires productions_len_bound { (length productions.now ≤ nodes_most) × (length productions.now ≤ length ends.now) }
