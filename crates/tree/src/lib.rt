@@ -127,6 +127,7 @@ pub fn judge_held(table: &[u64; WORDS], held: &[u8], n: usize, symbol: usize) ->
 }
 
 // Judges a table and a tree that is handed in, whose root is to be of symbol 0.
+#[tactic(auto, using(crate::proofs::Handed::handing))]
 pub fn judge_tree(table: &[u64; WORDS], productions: &[u8], owns: &[u64]) -> Result<(), Refusal>
     ensures { JudgeTreeSays table.now productions.now owns.now result }
 {
