@@ -53,8 +53,7 @@ pub fn index(x: u8) -> usize
     x as usize
 }
 
-// Reads one subtree of `symbol` at `at`: a node, and behind it the row of its children. Where what it read ends, or what is wrong there.
-#[cycle(row_subtree)]
+// Reads one subtree of `symbol` at `at`: a node, and behind it the subtrees of its children in their order. Where what it read ends, or what is wrong there.
 fn subtree(
     table: &[u64; WORDS],
     productions: &[u8],
@@ -75,30 +74,11 @@ fn subtree(
     if left_of(table, p) != symbol {
         return Err(Refusal::Shape);
     }
-    row(table, productions, at + 1, p, 0)
-}
-
-// Reads the row of a production's children from child `child` on, each by the reading of a subtree. What is unread falls from call to call.
-#[cycle(row_subtree)]
-fn row(
-    table: &[u64; WORDS],
-    productions: &[u8],
-    at: usize,
-    production: usize,
-    child: usize,
-) -> Result<usize, Refusal>
-    requires limits { Limits table.now }
-    requires at_in_bounds { at ≤ length productions.now }
-    requires production_bound { production < production_count table.now }
-    requires child_bound { child ≤ child_count table.now production }
-    ensures { Says table.now productions.now at at (children_from table.now production (child_count table.now production - child) child) result }
-{
-    if child_count(table, production) <= child {
-        return Ok(at);
+    let mut next = at + 1;
+    for child in 0..child_count(table, p) {
+        next = subtree(table, productions, next, child_of(table, p, child))?;
     }
-    let symbol = child_of(table, production, child);
-    let next = subtree(table, productions, at, symbol)?;
-    row(table, productions, next, production, child + 1)
+    Ok(next)
 }
 
 // Judges nodes over a judged table: whether they are one subtree of `symbol`, and nothing behind it.
