@@ -131,9 +131,8 @@ fn end_of(table: &[u64; WORDS], productions: &[u8], ends: &[u16], at: usize) -> 
     ensures { result ≡ span_end table.now productions.now at }
 {
     let p = usize::from(productions[at]);
-    let count = child_count(table, p);
     let mut next = at + 1;
-    for _ in 0..count {
+    for _ in 0..child_count(table, p) {
         if productions.len() <= next {
             return next;
         }

@@ -5,4 +5,4 @@ use Rattle.tree.proofs.end_of.Goals as goal
 
 pub returns-then-productions-next : goal.returns-then-productions-next
 returns-then-productions-next c =
-    turn_out _ _ c.args.at _ c.loop.counter _ _ (omega arith) c.from-p.ensures c.child_count-count.ensures c.loop.invariant c.loop.auto.counter-end c.if-productions-next.true
+    turn_out _ _ c.args.at _ c.loop.counter _ _ (omega arith) c.from-p.ensures c.child_count-end.ensures c.loop.invariant c.loop.auto.counter-end c.if-productions-next.true
