@@ -92,9 +92,10 @@ pub fn judge_nodes(table: &[u64; WORDS], productions: &[u8], symbol: usize) -> R
     }
     let over = usize::from(productions[next]);
     if production_count(table) <= over {
-        return Err(Refusal::Production);
+        Err(Refusal::Production)
+    } else {
+        Err(Refusal::Shape)
     }
-    Err(Refusal::Shape)
 }
 
 // The same of the first `n` nodes of a longer slice.
@@ -131,14 +132,14 @@ fn end_of(table: &[u64; WORDS], productions: &[u8], ends: &[u16], at: usize) -> 
     ensures { result ≡ span_end table.now productions.now at }
 {
     let p = usize::from(productions[at]);
-    let mut next = at + 1;
+    let mut behind = at + 1;
     for _ in 0..child_count(table, p) {
-        if productions.len() <= next {
-            return next;
+        if productions.len() <= behind {
+            return behind;
         }
-        next = usize::from(ends[next]);
+        behind = usize::from(ends[behind]);
     }
-    next
+    behind
 }
 
 // Writes the end of each node's subtree, from the last node to the first: each node looks at its children alone.
