@@ -7,7 +7,7 @@ ghost use Rattle.circles.specs.Arrays.{Given, graph_of, Laid};
 mod lent;
 mod sizes;
 
-use crate::sizes::{rank_to_512, rank_to_1024, rank_to_2048, rank_to_4096};
+use crate::sizes::rank_within;
 
 // The circles of n slots, ranked: the label of each slot, the members circle by circle, where each circle ends, and how many there are.
 // a[x] is 65534 where x is not declared; an argument past the slots is none. The memory that it fills follows n.
@@ -23,13 +23,12 @@ pub fn rank_circles(
     ensures { Laid (graph_of n a.now b.now) label.old members.old ends.old label.new members.new ends.new result }
 {
     if n <= 512 {
-        return rank_to_512(n, a, b, label, members, ends);
+        rank_within::<512, 1024>(n, a, b, label, members, ends)
+    } else if n <= 1024 {
+        rank_within::<1024, 2048>(n, a, b, label, members, ends)
+    } else if n <= 2048 {
+        rank_within::<2048, 4096>(n, a, b, label, members, ends)
+    } else {
+        rank_within::<4096, 8192>(n, a, b, label, members, ends)
     }
-    if n <= 1024 {
-        return rank_to_1024(n, a, b, label, members, ends);
-    }
-    if n <= 2048 {
-        return rank_to_2048(n, a, b, label, members, ends);
-    }
-    rank_to_4096(n, a, b, label, members, ends)
 }
