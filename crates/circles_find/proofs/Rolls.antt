@@ -5,8 +5,8 @@ use native.Mathlib.Decide.{ℕ_discrete}
 use mathlib.Core.Path.{◌≡◌, refl, sym, ap, subst, ◌∙◌}
 use mathlib.Core.List.{List}
 use mathlib.Core.Logic.{dite}
-use lib.ListN.{length, get_or, set, length-set}
-use lib.Seq.{get_or-set_same, get_or-set_other}
+use lib.ListN.{length, get_or, set, take, length-set}
+use lib.Seq.{get_or-set_same, get_or-set_other, get_or-take, length-take-le}
 use Rattle.circles_find.specs.Inner.Search.{Roll, Marked, Stated, Blank, Chained, Linked, value_in, arg_of}
 use Rattle.circles_find.proofs.Chains.{Partly, partly_none, partly_down, partly_more, partly_all, arg_off, arg_even, arg_odd}
 
@@ -61,6 +61,21 @@ roll_same P Q n d slots to of R = record {
   rises = R.rises;
   all = λ y h q. R.all y h (of y h q);
 }
+
+-- the list alone, without what stands behind it
+pub roll_front : (P : ℕ → Type 0) (n d : ℕ) (slots : List ℕ) → Roll P n slots d → Roll P n (take d slots) (length (take d slots))
+roll_front P n d slots R =
+    let all : length (take d slots) ≡ d = length-take-le d slots R.long in
+    let at : (k : ℕ) → k < d → get_or (take d slots) k 0 ≡ get_or slots k 0 = λ k h. get_or-take d slots k 0 h in
+    let below : (k : ℕ) → k < length (take d slots) → k < d = λ k h. omega arith in
+    record {
+      few = omega (arith, all, R.few);
+      long = omega arith;
+      within = λ k h. omega (arith, at k (below k h), R.within k (below k h));
+      is = λ k h. subst P (sym (at k (below k h))) (R.is k (below k h));
+      rises = λ j k h₁ h₂. let kd = below k h₂ in let jd : j < d = omega arith in omega (arith, at j jd, at k kd, R.rises j k h₁ kd);
+      all = λ y h p. let w = R.all y h p in (w.0, omega (arith, w.1), at w.0 w.1 ∙ w.2);
+    }
 
 -- ---- chains along a list, from its end
 

@@ -4,12 +4,12 @@ use native.Mathlib.Omega.{arith}
 use mathlib.Core.Path.{◌≡◌, refl, sym, ap, subst, ◌∙◌}
 use mathlib.Core.List.{List}
 use mathlib.Core.Logic.{◌⊎◌, inl, inr, ⊎_elim, dite}
-use native.Mathlib.Decide.{ℕ_discrete, dec_lt}
+use native.Mathlib.Decide.{ℕ_discrete}
 use lib.ListN.{get_or, length, set}
 use lib.Seq.{get_or-set_same, get_or-set_other}
 use Rattle.circles.specs.Graph.{Path⁺, here, there}
-use Rattle.circles_find.specs.Inner.Search.{Arg, Clean, Via, Back, Found, Blank, Stated, Marked, Roll}
-use Rattle.circles_find.specs.Inner.Labels.{Round, Reps, Stale, Seeded, Took}
+use Rattle.circles_find.specs.Inner.Search.{Arg, Clean, Via, Back, Found, Blank, Stated, Marked}
+use Rattle.circles_find.specs.Inner.Labels.{Round, Reps, Stale, Took}
 use Rattle.circles.proofs.Paths.{join, mapped, turned, inside, closed}
 
 -- where the start is allowed, so is the end
@@ -140,14 +140,3 @@ module _ (n : ℕ) (nl : n ≤ 4096) (a b : List ℕ) where
 -- the first j of the list have their label
 abbrev pub Labelled : ℕ → List ℕ → List ℕ → ℕ → Type 0
 Labelled n slots rep j = (k : ℕ) → k < j → Marked n rep (get_or slots k 0)
-
--- once the seed is tried, those up to where the search stands have theirs
-pub tried : (n d : ℕ) (a b slots rep rep' m : List ℕ) (i j x i' j' : ℕ) → Roll (Stated a) n slots d → Reps n a b rep → Labelled n slots rep j → Seeded n d slots rep i j x i' j' → Took n a b x rep rep' m → Labelled n slots rep' j'
-tried n d a b slots rep rep' m i j x i' j' L R f s t k h =
-    let kd : k < d = omega (arith, s.within) in
-    elim (dec_lt k j) [
-      | yes l ↦ t.kept (get_or slots k 0) (f k l)
-      | no l ↦ ⊎_elim
-          (λ e. subst (λ (v : ℕ). v < n → Stated a v → Marked n rep' v) (s.skip k (omega arith) h e) t.here (L.within k kd) (L.is k kd))
-          (λ p. t.kept (get_or slots k 0) p.0) (R.own (get_or slots k 0) (L.within k kd))
-    ]

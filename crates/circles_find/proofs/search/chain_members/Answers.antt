@@ -5,4 +5,4 @@ use Rattle.circles_find.proofs.search.chain_members.Goals as goal
 
 pub loop-k-preserved : goal.loop-k-preserved
 loop-k-preserved c =
-    (members_more c.args.n c.args.rep.now c.requires.2 (c.loop-k.k - 1) c.wide-x.result (omega arith) c.loop-k.invariant.1 c.loop-k.invariant.0 c.wide-x.ensures c.link.new.first c.link.new.next c.link.ensures, omega (arith, c.loop-k.invariant.1))
+    members_more c.args.n c.args.rep.now c.requires.2 (c.loop-k.k - 1) c.from-x.result (omega arith) (omega arith) c.loop-k.invariant c.from-x.ensures c.link.new.first c.link.new.next c.link.ensures

@@ -22,39 +22,42 @@ module _ (n : ℕ) (a b okay : List ℕ) (k x : ℕ) (m₀ m q : List ℕ) (t v 
 
 pub loop-head-init : goal.loop-head-init
 loop-head-init c =
-    let g = c.args in
+    let g = c.args.g in
+    let s = c.args.s in
     let r = c.requires.n_le_slots_most in
-    (started g.n (Arg g.n g.a.now g.b.now) g.okay.now g.k g.x g.mark.now g.queue.now r.3 r.4 r.2, record { all = λ i l. absurd (omega arith) }, omega arith)
+    (rw c.from.ensures (started g.n (Arg g.n g.a.now g.b.now) s.okay.now s.k s.x c.args.mark.now c.args.queue.now r.3 r.4 r.2), record { all = λ i l. absurd (omega arith) }, omega arith)
 
 pub offset_bounds-queue-head : goal.offset_bounds-queue-head
-offset_bounds-queue-head c = omega (arith, c.loop-head-test.true, front_le c.loop-head.invariant.0, length-set c.args.mark.now c.args.x c.args.x)
+offset_bounds-queue-head c = omega (arith, c.loop-head-test.true, front_le c.loop-head.invariant.0, length-set c.args.mark.now c.args.s.x c.args.s.x)
 
 pub bounds-queue-head : goal.bounds-queue-head
 bounds-queue-head c = omega (arith, c.loop-head-test.true, front_le c.loop-head.invariant.0, c.loop-head.invariant.0.lenq)
 
-pub visit-tail-requires-in-loop-head : goal.visit-tail-requires-in-loop-head
-visit-tail-requires-in-loop-head c =
-    let g = c.args in
+pub look-tail-requires-in-loop-head : goal.look-tail-requires-in-loop-head
+look-tail-requires-in-loop-head c =
+    let g = c.args.g in
+    let s = c.args.s in
     let l = c.loop-head in
-    let w = entry g.n g.a.now g.b.now g.okay.now g.k g.x (set g.mark.now g.x g.x) l.mark l.queue l.tail c.wide-v.result l.head c.requires.stated.0 c.requires.stated.1 l.invariant.0 c.loop-head-test.true c.wide-v.ensures in
-    let first = one_look g.n g.a.now g.b.now g.okay.now g.k g.x (set g.mark.now g.x g.x) l.mark l.queue l.tail c.wide-v.result c.visit-tail.new.mark c.visit-tail.new.queue c.visit-tail.result (get_or g.a.now c.wide-v.result 0) l.invariant.0 w (inl refl) c.visit-tail.ensures in
+    let w = entry g.n g.a.now g.b.now s.okay.now s.k s.x (set c.args.mark.now s.x s.x) l.mark l.queue l.tail c.from-v.result l.head c.requires.stated.0 c.requires.stated.1 l.invariant.0 c.loop-head-test.true c.from-v.ensures in
+    let first = one_look g.n g.a.now g.b.now s.okay.now s.k s.x (set c.args.mark.now s.x s.x) l.mark l.queue l.tail c.from-v.result c.look-tail.new.mark c.look-tail.new.queue c.look-tail.result (get_or g.a.now c.from-v.result 0) l.invariant.0 w (inl refl) c.look-tail.ensures in
     (c.requires.n_le_slots_most.0, c.requires.n_le_slots_most.1, front_room first.front)
 
 pub loop-head-smaller : goal.loop-head-smaller
-loop-head-smaller c = omega (arith, c.loop-head-test.true, front_le c.loop-head.invariant.0)
+loop-head-smaller c = omega (arith, c.loop-head-test.true, front_le c.loop-head.invariant.0, length-set c.args.mark.now c.args.s.x c.args.s.x)
 
 pub loop-head-preserved : goal.loop-head-preserved
 loop-head-preserved c =
-    let g = c.args in
+    let g = c.args.g in
+    let s = c.args.s in
     let l = c.loop-head in
-    let v = c.wide-v.result in
-    let w = entry g.n g.a.now g.b.now g.okay.now g.k g.x (set g.mark.now g.x g.x) l.mark l.queue l.tail v l.head c.requires.stated.0 c.requires.stated.1 l.invariant.0 c.loop-head-test.true c.wide-v.ensures in
-    let first = one_look g.n g.a.now g.b.now g.okay.now g.k g.x (set g.mark.now g.x g.x) l.mark l.queue l.tail v c.visit-tail.new.mark c.visit-tail.new.queue c.visit-tail.result (get_or g.a.now v 0) l.invariant.0 w (inl refl) c.visit-tail.ensures in
-    let second = one_look g.n g.a.now g.b.now g.okay.now g.k g.x (set g.mark.now g.x g.x) c.visit-tail.new.mark c.visit-tail.new.queue c.visit-tail.result v c.visit-tail-in-loop-head.new.mark c.visit-tail-in-loop-head.new.queue c.visit-tail-in-loop-head.result (get_or g.b.now v 0)
-    first.front (w.0, first.grew.stays v w.1, w.2) (inr refl) c.visit-tail-in-loop-head.ensures in
+    let v = c.from-v.result in
+    let w = entry g.n g.a.now g.b.now s.okay.now s.k s.x (set c.args.mark.now s.x s.x) l.mark l.queue l.tail v l.head c.requires.stated.0 c.requires.stated.1 l.invariant.0 c.loop-head-test.true c.from-v.ensures in
+    let first = one_look g.n g.a.now g.b.now s.okay.now s.k s.x (set c.args.mark.now s.x s.x) l.mark l.queue l.tail v c.look-tail.new.mark c.look-tail.new.queue c.look-tail.result (get_or g.a.now v 0) l.invariant.0 w (inl refl) c.look-tail.ensures in
+    let second = one_look g.n g.a.now g.b.now s.okay.now s.k s.x (set c.args.mark.now s.x s.x) c.look-tail.new.mark c.look-tail.new.queue c.look-tail.result v c.look-tail-in-loop-head.new.mark c.look-tail-in-loop-head.new.queue c.look-tail-in-loop-head.result (get_or g.b.now v 0)
+    first.front (w.0, first.grew.stays v w.1, w.2) (inr refl) c.look-tail-in-loop-head.ensures in
     let both = grew_join first.grew second.grew in (
       second.front,
-      done_more v (both.same l.head c.loop-head-test.true ∙ sym c.wide-v.ensures)
+      done_more v (both.same l.head c.loop-head-test.true ∙ sym c.from-v.ensures)
           (λ z h. ⊎_elim
           (λ o. second.grew.stays z (seen_at first z o h.0.1 h.1))
           (λ o. seen_at second z o h.0.1 h.1)
@@ -65,8 +68,9 @@ loop-head-preserved c =
 
 pub returns : goal.returns
 returns c =
-    let g = c.args in
+    let g = c.args.g in
+    let s = c.args.s in
     let l = c.loop-head in
-    found_before g.n (Arg g.n g.a.now g.b.now) g.okay.now g.k g.x g.mark.now l.mark
-    (ended g.n (Arg g.n g.a.now g.b.now) g.okay.now g.k g.x (set g.mark.now g.x g.x) l.mark l.queue l.head l.tail
+    found_before g.n (Arg g.n g.a.now g.b.now) s.okay.now s.k s.x c.args.mark.now l.mark
+    (ended g.n (Arg g.n g.a.now g.b.now) s.okay.now s.k s.x (set c.args.mark.now s.x s.x) l.mark l.queue l.head l.tail
     c.requires.n_le_slots_most.2.small (λ u v e. e.1) l.invariant.0 l.invariant.1 c.loop-head-test.false)
