@@ -15,8 +15,8 @@ pub const UNDECLARED: u16 = 65_534;
 #[derive(Clone, Copy)]
 pub struct Graph<'a> {
     pub n: usize,
-    pub a: &'a [u16; 4096],
-    pub b: &'a [u16; 4096],
+    pub a: &'a [u16; SLOTS],
+    pub b: &'a [u16; SLOTS],
 }
 
 // A slot's number as an index.

@@ -2,7 +2,7 @@ ghost use Rattle.std.specs.Prelude.{◌+◌, ◌<◌, ◌≤◌, length};
 ghost use Rattle.circles_find.specs.Inner.Search.{Stated, Roll};
 ghost use Rattle.circles.specs.Marks.{slots_most};
 
-use circles::{Graph, UNDECLARED};
+use circles::{Graph, SLOTS, UNDECLARED};
 
 // The stages of a slot: no walk has come to it, its first argument is looked at next, or its second, or both have been.
 pub const UNSEEN: u16 = 4;
@@ -12,7 +12,7 @@ const FIRST: u16 = 1;
 const SECOND: u16 = 2;
 
 // The argument of v in x, where the walk is at the stage that looks at it and comes to it for the first time. Both move on by a stage.
-fn come_to(n: usize, x: &[u16; 4096], v: usize, at: u16, stage: &mut [u16]) -> Option<u16>
+fn come_to(n: usize, x: &[u16; SLOTS], v: usize, at: u16, stage: &mut [u16]) -> Option<u16>
     requires { (v < n) × (n ≤ slots_most) × (n ≤ length stage.old) × (at < 3) }
 {
     if stage[v] != at {

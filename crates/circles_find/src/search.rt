@@ -134,6 +134,7 @@ fn mark_readers(g: Graph, readers: Readers, s: Search, mark: &mut [u16], queue: 
 }
 
 // Labels the circle of x, which has no label, by x: what reads its way to x, and of that what x reads its way to.
+#[inline(always)]
 fn take_circle(
     g: Graph,
     readers: Readers,
