@@ -51,13 +51,12 @@ fn number(text: &[u8], at: usize) -> u16
     u16::from_be_bytes([text[at], text[at + 1]])
 }
 
-// The first or second arguments of n slots, the first of them at the place given.
-fn fill(text: &[u8], n: usize, at: usize, into: &mut [u16; SLOTS])
-    requires { (n ≤ 4096) × (at ≤ 4) × (4 * n + at ≤ length text.now + 2) × (length into.old ≡ 4096) }
-    ensures { length into.new ≡ 4096 }
+// The first or second arguments of the slots, the first of them at the place given.
+fn fill(text: &[u8], at: usize, into: &mut [u16])
+    requires { (length into.old ≤ 4096) × (at ≤ 4) × (4 * length into.old + at ≤ length text.now + 2) }
 {
-    for x in 0..n {
-        into[x] = number(text, 4 * x + at);
+    for (x, argument) in into.iter_mut().enumerate() {
+        *argument = number(text, 4 * x + at);
     }
 }
 
@@ -139,8 +138,8 @@ fn answer(output: Stdout, text: &[u8], task: Task) -> io::Result<()> {
     }
     let mut a = [UNDECLARED; SLOTS];
     let mut b = [NO_SLOT; SLOTS];
-    fill(text, n, 2, &mut a);
-    fill(text, n, 4, &mut b);
+    fill(text, 2, &mut a[..n]);
+    fill(text, 4, &mut b[..n]);
     let g = Graph { n, a: &a, b: &b };
     tell(output, g, task)
 }
