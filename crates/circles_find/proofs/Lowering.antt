@@ -1,14 +1,13 @@
 -- From the labels by any member to the labels by the least, and to the labels as they compute. Assumes nothing.
-use Prim.Native.Nat.{ℕ, suc, ◌+◌, ◌≤◌, ◌<◌}
+use Prim.Native.Nat.{ℕ, ◌≤◌, ◌<◌}
 use native.Mathlib.Omega.{arith}
-use native.Mathlib.Decide.{ℕ_discrete, dec_lt}
-use native.Mathlib.Numerals.{add-one}
+use native.Mathlib.Decide.{dec_lt}
 use mathlib.Core.Path.{◌≡◌, refl, sym, ap, subst, ◌∙◌}
 use mathlib.Core.Bool.{Bool, true, false, true≢false}
 use mathlib.Core.List.{List, ◌++◌}
 use mathlib.Core.Logic.{⊎_elim, dite}
-use lib.ListN.{length, get_or, set, take, drop, length-set, take-append-drop}
-use lib.Seq.{get_or-set_same, get_or-set_other, get_or-take, drop-set-lt, drop-drop, length-take-le, ext_get_or}
+use lib.ListN.{length, get_or, take, drop, take-append-drop}
+use lib.Seq.{get_or-take, length-take-le, ext_get_or}
 use Rattle.circles.specs.Graph.{LeastOf}
 use Rattle.circles.specs.Ranked.{labels_of, label_at}
 use Rattle.circles.specs.Arrays.{Given, graph_of, over}
@@ -21,55 +20,12 @@ use Rattle.circles_find.proofs.Rolls.{roll_same}
 use Rattle.circles_find.proofs.Holding.{is_declared, was_declared, round_together, together_round}
 use Rattle.circles.proofs.Lists.{default_is}
 
-drop_more : (l m : List ℕ) (i : ℕ) → drop i l ≡ drop i m → drop (suc i) l ≡ drop (suc i) m
-drop_more l m i e = sym (drop_drop_one l i) ∙ ap (drop 1) e ∙ drop_drop_one m i
-  where
-    drop_drop_one : (l : List ℕ) (i : ℕ) → drop 1 (drop i l) ≡ drop (suc i) l
-    drop_drop_one l i = drop-drop 1 i l ∙ ap (λ (u : ℕ). drop u l) (add-one i)
-
-pub cleared_none : (label : List ℕ) → Cleared label 0 label
-cleared_none label = record { none = λ y h. absurd (omega arith); long = refl; rest = refl }
-
-pub cleared_more : (label₀ label : List ℕ) (i : ℕ) → i < length label → Cleared label₀ i label → Cleared label₀ (i + 1) (set label i 65535)
-cleared_more label₀ label i il L = record {
-  none = λ y h. dite (ℕ_discrete y i)
-      (λ c. ap (λ (u : ℕ). get_or (set label i 65535) u 0) c ∙ get_or-set_same label i 65535 0 il)
-      (λ c. get_or-set_other label i y 65535 0 c ∙ L.none y (omega (arith, c)));
-  long = length-set label i 65535 ∙ L.long;
-  rest = drop-set-lt (i + 1) label i 65535 (omega arith) ∙ ap (λ (u : ℕ). drop u label) (add-one i) ∙ drop_more label label₀ i L.rest ∙ ap (λ (u : ℕ). drop u label₀) (sym (add-one i));
-}
-
 -- the first k of the list have their least
 pub record Partway (n : ℕ) (rep low slots label₀ : List ℕ) (k : ℕ) (label : List ℕ) : Type 0 where
   pub least : (j : ℕ) → j < k → get_or label (get_or slots j 0) 0 ≡ get_or low (get_or rep (get_or slots j 0) 0) 0
   pub none : (x : ℕ) → x < n → n ≤ get_or rep x 0 → get_or label x 0 ≡ 65535
   pub long : length label ≡ length label₀
   pub rest : drop n label ≡ drop n label₀
-
-module _ (n d : ℕ) (rep low slots label₀ : List ℕ) (R : Roll (Marked n rep) n slots d) where
-  pub partway_none : ((y : ℕ) → y < n → get_or label₀ y 0 ≡ 65535) → Partway n rep low slots label₀ 0 label₀
-  partway_none f = record { least = λ j h. absurd (omega arith); none = λ x h _. f x h; long = refl; rest = refl }
-
-  pub partway_more : (label : List ℕ) (k : ℕ) → k < d → get_or slots k 0 < length label → Partway n rep low slots label₀ k label → Partway n rep low slots label₀ (k + 1) (set label (get_or slots k 0) (get_or low (get_or rep (get_or slots k 0) 0) 0))
-  partway_more label k kd xl L =
-      let x : ℕ = get_or slots k 0 in
-      let v : ℕ = get_or low (get_or rep (get_or slots k 0) 0) 0 in
-      record {
-        least = λ j h. dite (ℕ_discrete j k)
-            (λ c. subst (λ (u : ℕ). get_or (set label (get_or slots k 0) (get_or low (get_or rep (get_or slots k 0) 0) 0)) (get_or slots u 0) 0 ≡ get_or low (get_or rep (get_or slots u 0) 0) 0) (sym c) (get_or-set_same label (get_or slots k 0) (get_or low (get_or rep (get_or slots k 0) 0) 0) 0 xl))
-            (λ c. get_or-set_other label (get_or slots k 0) (get_or slots j 0) (get_or low (get_or rep (get_or slots k 0) 0) 0) 0 (λ q. omega (arith, q, R.rises j k (omega (arith, c)) kd)) ∙ L.least j (omega (arith, c)));
-        none = λ y h r. get_or-set_other label (get_or slots k 0) y (get_or low (get_or rep (get_or slots k 0) 0) 0) 0 (λ q. omega (arith, r, R.is k kd, ap (λ (u : ℕ). get_or rep u 0) q)) ∙ L.none y h r;
-        long = length-set label (get_or slots k 0) (get_or low (get_or rep (get_or slots k 0) 0) 0) ∙ L.long;
-        rest = drop-set-lt n label (get_or slots k 0) (get_or low (get_or rep (get_or slots k 0) 0) 0) (R.within k kd) ∙ L.rest;
-      }
-
-  pub partway_all : (label : List ℕ) (k : ℕ) → d ≤ k → Partway n rep low slots label₀ k label → Lowered n rep low label₀ label
-  partway_all label k h L = record {
-    some = λ x xl m. let w = R.all x xl m in subst (λ (u : ℕ). get_or label u 0 ≡ get_or low (get_or rep u 0) 0) w.2 (L.least w.0 (omega (arith, w.1)));
-    none = L.none;
-    long = L.long;
-    rest = L.rest;
-  }
 
 -- said of the labels before they were cleared
 pub lowered_cleared : (n : ℕ) (rep low label₀ label₁ label : List ℕ) → Cleared label₀ n label₁ → Lowered n rep low label₁ label → Lowered n rep low label₀ label

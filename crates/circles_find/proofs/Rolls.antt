@@ -11,27 +11,7 @@ use Rattle.circles_find.specs.Inner.Search.{Roll, Marked, Stated, Blank, Chained
 use Rattle.circles_find.proofs.Chains.{Partly, partly_none, partly_down, partly_more, partly_all, arg_off, arg_even, arg_odd}
 
 module _ (P : ℕ → Type 0) where
-  pub roll_none : (slots : List ℕ) → Roll P 0 slots 0
-  roll_none slots = record {
-    few = omega arith;
-    long = omega arith;
-    within = λ k h. absurd (omega arith);
-    is = λ k h. absurd (omega arith);
-    rises = λ j k h₁ h₂. absurd (omega arith);
-    all = λ y h. absurd (omega arith);
-  }
-
   module _ (slots : List ℕ) (i d : ℕ) (R : Roll P i slots d) where
-    pub roll_skip : (P i → ⊥) → Roll P (i + 1) slots d
-    roll_skip ne = record {
-      few = omega (arith, R.few);
-      long = R.long;
-      within = λ k h. omega (arith, R.within k h);
-      is = R.is;
-      rises = R.rises;
-      all = λ y h p. R.all y (dite (ℕ_discrete y i) (λ c. absurd (ne (subst P c p))) (λ c. omega (arith, c))) p;
-    }
-
     pub roll_more : P i → d < length slots → Roll P (i + 1) (set slots d i) (d + 1)
     roll_more p dl =
         let at-d : get_or (set slots d i) d 0 ≡ i = get_or-set_same slots d i 0 dl in

@@ -4,12 +4,12 @@ use native.Mathlib.Omega.{arith}
 use mathlib.Core.Path.{◌≡◌, refl, sym, ap, subst, ◌∙◌}
 use mathlib.Core.List.{List}
 use mathlib.Core.Logic.{◌⊎◌, inl, inr, ⊎_elim, dite}
-use native.Mathlib.Decide.{ℕ_discrete}
+use native.Mathlib.Decide.{ℕ_discrete, dec_lt}
 use lib.ListN.{get_or, length, set}
 use lib.Seq.{get_or-set_same, get_or-set_other}
 use Rattle.circles.specs.Graph.{Path⁺, here, there}
-use Rattle.circles_find.specs.Inner.Search.{Arg, Clean, Via, Back, Found, Blank, Stated, Marked}
-use Rattle.circles_find.specs.Inner.Labels.{Round, Reps, Stale, Took}
+use Rattle.circles_find.specs.Inner.Search.{Arg, Clean, Via, Back, Found, Stated, Marked, Roll}
+use Rattle.circles_find.specs.Inner.Labels.{Round, Reps, Stale, Seeded, Took}
 use Rattle.circles.proofs.Paths.{join, mapped, turned, inside, closed}
 
 -- where the start is allowed, so is the end
@@ -33,25 +33,7 @@ module _ (n : ℕ) (nl : n ≤ 4096) (a b : List ℕ) where
   circ_trans : {x y z : ℕ} → Round n a b x y → Round n a b y z → Round n a b x z
   circ_trans c d = (join c.0 d.0, join d.1 c.1)
 
-  pub reps_none : (r : List ℕ) → Blank n r → Reps n a b r
-  reps_none r bl = record {
-    long = bl.long;
-    own = λ y yl. inl (bl.blank y yl);
-    whole = λ y z yl zl h c. absurd (omega (arith, bl.blank y yl));
-    stated = λ y yl h. absurd (omega (arith, bl.blank y yl));
-  }
-
-  pub stale_none : (m r : List ℕ) → Blank n m → Stale n m r
-  stale_none m r bl = record { long = bl.long; used = λ y yl h. absurd (omega (arith, bl.blank y yl)) }
-
   module _ (x : ℕ) (r : List ℕ) (R : Reps n a b r) (xl : x < n) (rx : get_or r x 0 ≡ 65533) where
-    pub clean_marks : (m : List ℕ) → Stale n m r → Clean n x m
-    clean_marks m s = record {
-      small = xl;
-      none = λ y yl h. let u : get_or r (get_or m y 0) 0 < n = s.used y yl (omega arith) in
-          omega (arith, ap (λ (v : ℕ). get_or r v 0) h);
-    }
-
     pub clean_reps : Clean n x r
     clean_reps = record {
       small = xl;
@@ -140,3 +122,14 @@ module _ (n : ℕ) (nl : n ≤ 4096) (a b : List ℕ) where
 -- the first j of the list have their label
 abbrev pub Labelled : ℕ → List ℕ → List ℕ → ℕ → Type 0
 Labelled n slots rep j = (k : ℕ) → k < j → Marked n rep (get_or slots k 0)
+
+-- once the seed is tried, those up to where the search stands have theirs
+pub tried : (n d : ℕ) (a b slots rep rep' m : List ℕ) (i j x i' j' : ℕ) → Roll (Stated a) n slots d → Reps n a b rep → Labelled n slots rep j → Seeded n d slots rep i j x i' j' → Took n a b x rep rep' m → Labelled n slots rep' j'
+tried n d a b slots rep rep' m i j x i' j' L R f s t k h =
+    let kd : k < d = omega (arith, s.within) in
+    elim (dec_lt k j) [
+      | yes l ↦ t.kept (get_or slots k 0) (f k l)
+      | no l ↦ ⊎_elim
+          (λ e. subst (λ (v : ℕ). v < n → Stated a v → Marked n rep' v) (s.skip k (omega arith) h e) t.here (L.within k kd) (L.is k kd))
+          (λ p. t.kept (get_or slots k 0) p.0) (R.own (get_or slots k 0) (L.within k kd))
+    ]

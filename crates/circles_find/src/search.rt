@@ -133,7 +133,7 @@ fn mark_readers(g: Graph, readers: Readers, s: Search, mark: &mut [u16], queue: 
     tail
 }
 
-// Labels the circle of x, which has no label, by x: what reads its way to x, and of that what x reads its way to.
+// Labels the circle of x, which has no label, by x: what reads its way to x, and of that what x reads its way to. Most circles are lone slots, for which a call of its own weighs.
 #[inline(always)]
 fn take_circle(
     g: Graph,
