@@ -18,6 +18,11 @@ use std::env::Env;
 use std::io;
 use std::io::{Cursor, Read, Stdout};
 
+// So many bytes has the text of the greatest graph, and so many ends have the most circles.
+const TEXT: usize = 4 * SLOTS + 2;
+
+const ENDS: usize = SLOTS + 1;
+
 // What the program is asked.
 #[derive(Clone, Copy, PartialEq, Eq)]
 enum Task {
@@ -100,7 +105,7 @@ fn counted(g: Graph, task: Task) -> Found
 {
     let mut label = [0u16; SLOTS];
     let mut members = [0u16; SLOTS];
-    let mut ends = [0u16; 4097];
+    let mut ends = [0u16; ENDS];
     let count = match task {
         Task::Rank => rank_circles(g.n, g.a, g.b, &mut label, &mut members, &mut ends),
         Task::Read => g.n,
@@ -149,7 +154,7 @@ fn main(rt: HostRuntime) -> io::Result<()> {
     let Some(task) = asked(&rt) else {
         return println!(output; "usage: bench_ranks rank|read < GRAPH");
     };
-    let mut text = [0u8; 16386];
+    let mut text = [0u8; TEXT];
     let length = read_full(&mut rt.stdin(), &mut text);
     answer(output, &text[..length], task)
 }
