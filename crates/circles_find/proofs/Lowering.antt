@@ -28,8 +28,8 @@ pub record Partway (n : ℕ) (rep low slots label₀ : List ℕ) (k : ℕ) (labe
   pub rest : drop n label ≡ drop n label₀
 
 -- said of the labels before they were cleared
-pub lowered_cleared : (n : ℕ) (rep low label₀ label₁ label : List ℕ) → Cleared label₀ n label₁ → Lowered n rep low label₁ label → Lowered n rep low label₀ label
-lowered_cleared n rep low label₀ label₁ label c L = record { some = L.some; none = L.none; long = L.long ∙ c.long; rest = L.rest ∙ c.rest }
+pub lowered_cleared : {n : ℕ} {rep low label₀ label₁ label : List ℕ} → Cleared label₀ n label₁ → Lowered n rep low label₁ label → Lowered n rep low label₀ label
+lowered_cleared c L = record { some = L.some; none = L.none; long = L.long ∙ c.long; rest = L.rest ∙ c.rest }
 
 -- ---- the labels by the least are the labels as they compute, and their chains are the circles
 
@@ -46,14 +46,14 @@ reps_undeclared n a b rep Q R x xl d =
     (λ u. absurd (true≢false (sym (reached_declared Q.closed (is_declared n a b Q.long_a Q.long_b (get_or rep x 0) u.0 (R.stated x xl u.0)) (round_together n a b Q.long_a Q.long_b _ x u.1).0) ∙ d)))
     (R.own x xl)
 
-pub labelled_stated : (n : ℕ) (a b rep : List ℕ) → Given n a b → Reps n a b rep → (y : ℕ) → y < n → Marked n rep y → Stated a y
-labelled_stated n a b rep Q R y yl m = by ((graph_of n a b).declared y) refl
+pub labelled_stated : {n : ℕ} {a b rep : List ℕ} → Given n a b → Reps n a b rep → (y : ℕ) → y < n → Marked n rep y → Stated a y
+labelled_stated {n} {a} {b} {rep} Q R y yl m = by ((graph_of n a b).declared y) refl
   where
     by : (t : Bool) → (graph_of n a b).declared y ≡ t → Stated a y
     by true d = (was_declared n a b Q.long_a Q.long_b y d).1
     by false d = absurd (omega (arith, m, Q.few, reps_undeclared n a b rep Q R y yl d))
 
-module _ (n : ℕ) (a b rep low after label₀ label : List ℕ) (Q : Given n a b) (R : Reps n a b rep) (all : (y : ℕ) → y < n → (get_or a y 0 ≡ 65534 → ⊥) → get_or rep y 0 < n)
+module _ {n : ℕ} {a b rep low after label₀ label : List ℕ} (Q : Given n a b) (R : Reps n a b rep) (all : (y : ℕ) → y < n → (get_or a y 0 ≡ 65534 → ⊥) → get_or rep y 0 < n)
     (C : Chained (value_in rep) n n low after) (L : Lowered n rep low label₀ label) (ll : n ≤ length label₀) where
   by_rep : (y : ℕ) → y < n → get_or rep y 0 < n → Round n a b (get_or rep y 0) y
   by_rep y h r = ⊎_elim (λ u. absurd (omega (arith, u, r, Q.few))) (λ u. u.1) (R.own y h)
@@ -85,7 +85,7 @@ module _ (n : ℕ) (a b rep low after label₀ label : List ℕ) (Q : Given n a 
     within = round_together n a b Q.long_a Q.long_b x (get_or label x 0) (same_round x (get_or label x 0) xl (omega (arith, at_most x xl r)) r (sym (rep_label x xl r)));
     least = λ y t. let yl : y < n = end_below (graph_of n a b) xl t.0 in
         dite (dec_lt y (get_or low (get_or rep x 0) 0))
-        (λ d. absurd ((C.start (get_or rep x 0) r).skip y (omega arith) d yl (R.whole x y xl yl r (together_round n a b Q.long_a Q.long_b Q.closed x y (is_declared n a b Q.long_a Q.long_b x xl (labelled_stated n a b rep Q R x xl r)) t))))
+        (λ d. absurd ((C.start (get_or rep x 0) r).skip y (omega arith) d yl (R.whole x y xl yl r (together_round n a b Q.long_a Q.long_b Q.closed x y (is_declared n a b Q.long_a Q.long_b x xl (labelled_stated Q R x xl r)) t))))
         (λ d. omega (arith, d, is x xl r));
   }
 
@@ -101,10 +101,10 @@ module _ (n : ℕ) (a b rep low after label₀ label : List ℕ) (Q : Given n a 
       ∙ ap (λ (u : ℕ). labels_of (graph_of n a b) ++ drop u label) q ∙ ap (λ (u : List ℕ). labels_of (graph_of n a b) ++ u) L.rest ∙ ap (λ (u : ℕ). labels_of (graph_of n a b) ++ drop u label₀) (sym q)
 
   -- the list of the declared slots is that of the labels
-  pub roll_labels : (slots : List ℕ) (d : ℕ) → Roll (Stated a) n slots d → Roll (Marked n label) n slots d
-  roll_labels slots d = roll_same (Stated a) (Marked n label) n d slots
+  pub roll_labels : {slots : List ℕ} {d : ℕ} → Roll (Stated a) n slots d → Roll (Marked n label) n slots d
+  roll_labels = roll_same
       (λ y yl h. omega (arith, at_most y yl (all y yl h)))
-      (λ y yl h. labelled_stated n a b rep Q R y yl (has_rep y yl h))
+      (λ y yl h. labelled_stated Q R y yl (has_rep y yl h))
 
   pub kin : Kin n label after
   kin = record {

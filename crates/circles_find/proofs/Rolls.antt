@@ -10,8 +10,8 @@ use lib.Seq.{get_or-set_same, get_or-set_other, get_or-take, length-take-le}
 use Rattle.circles_find.specs.Inner.Search.{Roll, Marked, Stated, Blank, Chained, Linked, value_in, arg_of}
 use Rattle.circles_find.proofs.Chains.{Partly, partly_none, partly_down, partly_more, partly_all, arg_off, arg_even, arg_odd}
 
-module _ (P : ℕ → Type 0) where
-  module _ (slots : List ℕ) (i d : ℕ) (R : Roll P i slots d) where
+module _ {P : ℕ → Type 0} where
+  module _ {slots : List ℕ} {i d : ℕ} (R : Roll P i slots d) where
     pub roll_more : P i → d < length slots → Roll P (i + 1) (set slots d i) (d + 1)
     roll_more p dl =
         let at-d : get_or (set slots d i) d 0 ≡ i = get_or-set_same slots d i 0 dl in
@@ -32,8 +32,8 @@ module _ (P : ℕ → Type 0) where
               (λ c. let w = R.all y (omega (arith, c)) q in (w.0, omega (arith, w.1), old w.0 w.1 ∙ w.2));
         }
 
-pub roll_same : (P Q : ℕ → Type 0) (n d : ℕ) (slots : List ℕ) → ((y : ℕ) → y < n → P y → Q y) → ((y : ℕ) → y < n → Q y → P y) → Roll P n slots d → Roll Q n slots d
-roll_same P Q n d slots to of R = record {
+pub roll_same : {P Q : ℕ → Type 0} {n d : ℕ} {slots : List ℕ} → ((y : ℕ) → y < n → P y → Q y) → ((y : ℕ) → y < n → Q y → P y) → Roll P n slots d → Roll Q n slots d
+roll_same {slots} to of R = record {
   few = R.few;
   long = R.long;
   within = R.within;
@@ -43,8 +43,8 @@ roll_same P Q n d slots to of R = record {
 }
 
 -- the list alone, without what stands behind it
-pub roll_front : (P : ℕ → Type 0) (n d : ℕ) (slots : List ℕ) → Roll P n slots d → Roll P n (take d slots) (length (take d slots))
-roll_front P n d slots R =
+pub roll_front : {P : ℕ → Type 0} {n d : ℕ} {slots : List ℕ} → Roll P n slots d → Roll P n (take d slots) (length (take d slots))
+roll_front {P} {d} {slots} R =
     let all : length (take d slots) ≡ d = length-take-le d slots R.long in
     let at : (k : ℕ) → k < d → get_or (take d slots) k 0 ≡ get_or slots k 0 = λ k h. get_or-take d slots k 0 h in
     let below : (k : ℕ) → k < length (take d slots) → k < d = λ k h. omega arith in

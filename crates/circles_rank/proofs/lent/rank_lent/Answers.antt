@@ -1,6 +1,5 @@
 -- Labels, then ranks, by the list of the slots that have a label. Assumes nothing.
 use Rattle.std.proofs.Common.{arith}
-use Rattle.circles_find.specs.Inner.Search.{Marked}
 use Rattle.circles_find.proofs.Rolls.{roll_front}
 use Rattle.circles_order.proofs.Going.{agrees_of}
 use Rattle.circles_rank.proofs.lent.rank_lent.Goals as goal
@@ -15,4 +14,4 @@ pub rank_labelled-requires-clause-roll : goal.rank_labelled-requires-clause-roll
 rank_labelled-requires-clause-roll c =
     let e = c.circle_labels-count in
     let s = c.requires.spare in
-    (roll_front (Marked c.args.g.n e.new.label) c.args.g.n e.result e.new.slots e.ensures.chained.1, s.flags, s.untaken, omega (arith, s.queued, e.auto.queue))
+    (roll_front e.ensures.chained.1, s.flags, s.untaken, omega (arith, s.queued, e.auto.queue))
