@@ -1,12 +1,14 @@
 -- The list of the slots of a kind, as it grows and as it is gone through. Assumes nothing.
-use Prim.Native.Nat.{ℕ, ◌+◌, ◌*◌, ◌/◌, ◌≤◌, ◌<◌}
+use Prim.Native.Nat.{ℕ, ◌+◌, ◌-◌, ◌*◌, ◌/◌, ◌≤◌, ◌<◌}
 use native.Mathlib.Omega.{arith}
 use native.Mathlib.Decide.{ℕ_discrete}
 use mathlib.Core.Path.{◌≡◌, refl, sym, ap, subst, ◌∙◌}
-use mathlib.Core.List.{List}
+use mathlib.Core.List.{List, reverse}
 use mathlib.Core.Logic.{dite}
 use lib.ListN.{length, get_or, set, take, length-set}
 use lib.Seq.{get_or-set_same, get_or-set_other, get_or-take, length-take-le}
+use Rattle.std.proofs.lemmas.List.{length-reverse, get_or-reverse}
+use Rattle.circles.proofs.Lists.{default_is}
 use Rattle.circles_find.specs.Inner.Search.{Roll, Marked, Stated, Blank, Chained, Linked, value_in, arg_of}
 use Rattle.circles_find.proofs.Chains.{Partly, partly_none, partly_down, partly_more, partly_all, arg_off, arg_even, arg_odd}
 
@@ -58,6 +60,12 @@ roll_front {P} {d} {slots} R =
     }
 
 -- ---- chains along a list, from its end
+
+-- what comes after n others from the end of the list
+pub from_end : (xs : List ℕ) (n x : ℕ) → (n < length (reverse xs)) × (x ≡ get_or (reverse xs) n x) → (n < length xs) × (x ≡ get_or xs (length xs - 1 - n) 0)
+from_end xs n x w =
+    let h : n < length xs = omega (arith, w.0, length-reverse xs) in
+    (h, w.1 ∙ get_or-reverse xs n x h ∙ default_is xs (length xs - 1 - n) x 0 (omega arith))
 
 -- the row f has its places slot by slot, those of x from top x on, and what it has at those is a slot only where P holds of x
 pub record Rows (P : ℕ → Type 0) (f top : ℕ → ℕ) (m n : ℕ) : Type 0 where

@@ -43,8 +43,8 @@ fn chain_readers(g: Graph, listed: &[u16], first: &mut [u16], next: &mut [u16])
     requires { (g.n ≤ slots_most) × Roll (Stated g.a.now) g.n listed.now (length listed.now) × Blank g.n first.old × (2 * g.n ≤ length next.old) }
     ensures { Chained (arg_of g.entry.a.now g.entry.b.now) (2 * g.entry.n) g.entry.n first.new next.new }
 {
-    for k in (0..listed.len()).rev() {
-        let x = usize::from(listed[k]);
+    for x in listed.iter().rev() {
+        let x = usize::from(*x);
         link(g.n, g.b[x], 2 * x + 1, first, next);
         link(g.n, g.a[x], 2 * x, first, next);
     }
@@ -55,8 +55,8 @@ fn chain_members(n: usize, listed: &[u16], rep: &[u16], low: &mut [u16], after: 
     requires { (n ≤ slots_most) × (n ≤ length rep.now) × Roll (Marked n rep.now) n listed.now (length listed.now) × Blank n low.old × (n ≤ length after.old) }
     ensures { Chained (value_in rep.now) n n low.new after.new }
 {
-    for k in (0..listed.len()).rev() {
-        let x = usize::from(listed[k]);
+    for x in listed.iter().rev() {
+        let x = usize::from(*x);
         link(n, rep[x], x, low, after);
     }
 }
