@@ -158,16 +158,12 @@ fn take_circle(
         rep[usize::from(x)] = x;
         return;
     }
-    mark_reads(
-        g,
-        Search {
-            x,
-            okay: seen,
-            k: x,
-        },
-        rep,
-        queue,
-    );
+    let found = Search {
+        x,
+        okay: seen,
+        k: x,
+    };
+    mark_reads(g, found, rep, queue);
 }
 
 // The same where x is a declared slot with no label, and else nothing.

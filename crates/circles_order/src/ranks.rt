@@ -12,8 +12,10 @@ use circles_find::Readers;
 // A circle that is taken has this mark.
 const TAKEN: u16 = 1;
 
-// The word of the ready ones, one a bit, whose words have a ready circle.
-const BLOCKS: usize = 64;
+// The ready circles stand in words, one a bit; the last word has a bit for each other one that has a ready circle.
+const WORDS: usize = 65;
+
+const BLOCKS: usize = WORDS - 1;
 
 // The circles of a graph: label[x] is the least of x's circle, and after[x] its next member behind x; a number past the slots is none.
 #[derive(Clone, Copy)]
@@ -66,7 +68,7 @@ fn advance(r: Ranking, l: u16, x: u16) -> u16
 }
 
 // Makes l ready.
-fn put(l: usize, ready: &mut [u64; 65])
+fn put(l: usize, ready: &mut [u64; WORDS])
     requires { (l < slots_most) × Bits ready.old }
     ensures { Put l ready.old ready.new }
 {
@@ -76,7 +78,7 @@ fn put(l: usize, ready: &mut [u64; 65])
 }
 
 // The least of what is ready, which is ready no more.
-fn pull(ready: &mut [u64; 65]) -> Option<usize>
+fn pull(ready: &mut [u64; WORDS]) -> Option<usize>
     requires { Bits ready.old }
     ensures { MatchOption result (Pulled ready.old ready.new slots_most)
         (λ l. (l < slots_most) × Pulled ready.old ready.new l) }
@@ -97,7 +99,7 @@ fn pull(ready: &mut [u64; 65]) -> Option<usize>
 }
 
 // Where w is what its circle's cursor stands at, the cursor moves on; where it gets past the end, the circle is ready.
-fn touch(r: Ranking, w: u16, cur: &mut [u16], ready: &mut [u64; 65])
+fn touch(r: Ranking, w: u16, cur: &mut [u16], ready: &mut [u64; WORDS])
     requires kin { Kin r.g.n r.labels.label.now r.labels.after.now × Covered r.g.n r.g.a.now r.g.b.now r.labels.label.now × (r.g.n ≤ length r.taken.now) × (w < r.g.n) × (get_or r.labels.label.now w 0 < r.g.n) }
     requires cursors { Cursors r.g.n r.g.a.now r.g.b.now r.labels.label.now r.taken.now cur.old × Bits ready.old }
     ensures { Moved r.entry.g.n r.entry.g.a.now r.entry.g.b.now r.entry.labels.label.now r.entry.taken.now cur.old ready.old cur.new ready.new × SureAt r.entry.g.n r.entry.g.a.now r.entry.g.b.now r.entry.labels.label.now r.entry.taken.now cur.new w }
@@ -115,7 +117,7 @@ fn touch(r: Ranking, w: u16, cur: &mut [u16], ready: &mut [u64; 65])
 }
 
 // Touches whatever reads y, by the chains of readers.
-fn retire(r: Ranking, readers: Readers, y: usize, cur: &mut [u16], ready: &mut [u64; 65])
+fn retire(r: Ranking, readers: Readers, y: usize, cur: &mut [u16], ready: &mut [u64; WORDS])
     requires y_lt_n { (y < r.g.n) × Chained (arg_of r.g.a.now r.g.b.now) (2 * r.g.n) r.g.n readers.first.now readers.next.now × Kin r.g.n r.labels.label.now r.labels.after.now × Covered r.g.n r.g.a.now r.g.b.now r.labels.label.now × (r.g.n ≤ length r.taken.now) }
     requires cursors { Cursors r.g.n r.g.a.now r.g.b.now r.labels.label.now r.taken.now cur.old × Bits ready.old }
     ensures { Moved r.entry.g.n r.entry.g.a.now r.entry.g.b.now r.entry.labels.label.now r.entry.taken.now cur.old ready.old cur.new ready.new × ((w : ℕ) → Arg r.entry.g.n r.entry.g.a.now r.entry.g.b.now w y → SureAt r.entry.g.n r.entry.g.a.now r.entry.g.b.now r.entry.labels.label.now r.entry.taken.now cur.new w) }
@@ -128,7 +130,7 @@ fn retire(r: Ranking, readers: Readers, y: usize, cur: &mut [u16], ready: &mut [
 }
 
 // Touches whatever reads a member of the circle l.
-fn retire_circle(r: Ranking, readers: Readers, l: usize, cur: &mut [u16], ready: &mut [u64; 65])
+fn retire_circle(r: Ranking, readers: Readers, l: usize, cur: &mut [u16], ready: &mut [u64; WORDS])
     requires l_lt_n { (l < r.g.n) × Chained (arg_of r.g.a.now r.g.b.now) (2 * r.g.n) r.g.n readers.first.now readers.next.now × Kin r.g.n r.labels.label.now r.labels.after.now × Covered r.g.n r.g.a.now r.g.b.now r.labels.label.now × (r.g.n ≤ length r.taken.now) }
     requires cursors { Cursors r.g.n r.g.a.now r.g.b.now r.labels.label.now r.taken.now cur.old × Bits ready.old × (get_or r.labels.label.now l 0 ≡ l) }
     ensures { Moved r.entry.g.n r.entry.g.a.now r.entry.g.b.now r.entry.labels.label.now r.entry.taken.now cur.old ready.old cur.new ready.new × ((y w : ℕ) → y < r.entry.g.n → get_or r.entry.labels.label.now y 0 ≡ l → Arg r.entry.g.n r.entry.g.a.now r.entry.g.b.now w y → SureAt r.entry.g.n r.entry.g.a.now r.entry.g.b.now r.entry.labels.label.now r.entry.taken.now cur.new w) }
@@ -157,7 +159,7 @@ fn lay_circle(n: usize, labels: Labels, l: u16, members: &mut [u16], pos: usize)
 }
 
 // The cursor of the slot l, where it leads a circle: at its first member with an argument outside.
-fn start_cursor(r: Ranking, l: u16, cur: &mut [u16], ready: &mut [u64; 65])
+fn start_cursor(r: Ranking, l: u16, cur: &mut [u16], ready: &mut [u64; WORDS])
     requires { Kin r.g.n r.labels.label.now r.labels.after.now × Covered r.g.n r.g.a.now r.g.b.now r.labels.label.now × (l < r.g.n) × ((y : ℕ) → get_or r.taken.now y 0 ≡ 1 → ⊥) × Turn r.g.n r.g.a.now r.g.b.now r.labels.label.now r.taken.now cur.old ready.old l }
     ensures { Turn r.entry.g.n r.entry.g.a.now r.entry.g.b.now r.entry.labels.label.now r.entry.taken.now cur.new ready.new (l + 1) }
 {
@@ -173,7 +175,7 @@ fn start_cursor(r: Ranking, l: u16, cur: &mut [u16], ready: &mut [u64; 65])
 }
 
 // Before the first turn, by the list of the slots that have a label: each circle's cursor stands at its first member that is not free.
-fn start_turns(r: Ranking, listed: &[u16], cur: &mut [u16], ready: &mut [u64; 65])
+fn start_turns(r: Ranking, listed: &[u16], cur: &mut [u16], ready: &mut [u64; WORDS])
     requires { Kin r.g.n r.labels.label.now r.labels.after.now × Covered r.g.n r.g.a.now r.g.b.now r.labels.label.now × Outset r.g.n r.taken.now cur.old ready.old × Roll (Marked r.g.n r.labels.label.now) r.g.n listed.now (length listed.now) }
     ensures { Turn r.entry.g.n r.entry.g.a.now r.entry.g.b.now r.entry.labels.label.now r.entry.taken.now cur.new ready.new r.entry.g.n }
 {
@@ -189,7 +191,7 @@ fn take_circles(
     labels: Labels,
     taken: &mut [u16],
     cur: &mut [u16],
-    ready: &mut [u64; 65],
+    ready: &mut [u64; WORDS],
     members: &mut [u16],
     ends: &mut [u16],
 ) -> usize
@@ -228,7 +230,7 @@ pub fn rank_labelled(
     requires n_in_bounds { (g.n ≤ length members.old) × (g.n + 1 ≤ length ends.old) }
     ensures { Listed (graph_of g.entry.n g.entry.a.now g.entry.b.now) members.old ends.old members.new ends.new result }
 {
-    let mut ready = [0u64; 65];
+    let mut ready = [0u64; WORDS];
     start_turns(Ranking { g, labels, taken }, listed, cur, &mut ready);
     take_circles(g, readers, labels, taken, cur, &mut ready, members, ends)
 }
