@@ -5,28 +5,38 @@
 // of members and of ends have in the middle; asked to `read`, how many slots, and zeros.
 #![tactic(auto)]
 
-ghost use Rattle.std.specs.Prelude.{◌+◌, ◌*◌, ◌<◌, ◌≤◌, ◌≡◌, cond, length};
+ghost use Rattle.std.specs.Prelude.{◌+◌, ◌*◌, ◌<◌, ◌≤◌, ◌≡◌, length};
 ghost use Rattle.circles.specs.Arrays.{Given, graph_of};
 ghost use Rattle.circles.specs.Graph.{Closed};
 ghost use Rattle.circles.specs.Ranked.{ranked};
 ghost use Rattle.circles_order.specs.Inner.Turns.{Says};
 ghost use Rattle.bench_ranks.specs.Inner.Slots.{Stands, Sure};
 
-use circles::{NO_SLOT, SLOTS, UNDECLARED};
+use circles::{Graph, NO_SLOT, SLOTS, UNDECLARED};
+use circles_rank::rank_circles;
 use std::env::Env;
 use std::io;
 use std::io::{Cursor, Read, Stdout};
 
-// What the program is asked: 2 to rank, 1 to read, 0 nothing that it knows.
-fn asked(rt: &impl Env) -> u8 {
+// So many bytes has the text of the greatest graph, and so many ends have the most circles.
+const TEXT: usize = 4 * SLOTS + 2;
+
+const ENDS: usize = SLOTS + 1;
+
+// What the program is asked.
+#[derive(Clone, Copy, PartialEq, Eq)]
+enum Task {
+    Rank,
+    Read,
+}
+
+fn asked(rt: &impl Env) -> Option<Task> {
     let mut word = [0u8; 8];
-    let Ok(length) = rt.arg(1, &mut word) else {
-        return 0;
-    };
+    let length = rt.arg(1, &mut word).ok()?;
     match &word[..length] {
-        b"rank" => 2,
-        b"read" => 1,
-        _ => 0,
+        b"rank" => Some(Task::Rank),
+        b"read" => Some(Task::Read),
+        _ => None,
     }
 }
 
@@ -40,75 +50,44 @@ fn read_full(input: &mut impl Read, buffer: &mut [u8]) -> usize
     room.min(text.position() as usize)
 }
 
-fn wide(x: u8) -> u16
-    ensures { (result ≡ x) × (result < 256) }
-{
-    x as u16
-}
-
 fn number(text: &[u8], at: usize) -> u16
     requires { at + 1 < length text.now }
 {
-    wide(text[at]) * 256 + wide(text[at + 1])
+    u16::from_be_bytes([text[at], text[at + 1]])
 }
 
-// The first or second arguments of n slots, the first of them at the place given.
-fn fill(text: &[u8], n: usize, at: usize, into: &mut [u16; 4096])
-    requires { (n ≤ 4096) × (at ≤ 4) × (4 * n + at ≤ length text.now + 2) × (length into.old ≡ 4096) }
-    ensures { length into.new ≡ 4096 }
+// The first or second arguments of the slots, the first of them at the place given.
+fn fill(text: &[u8], at: usize, into: &mut [u16])
+    requires { (length into.old ≤ 4096) × (at ≤ 4) × (4 * length into.old + at ≤ length text.now + 2) }
 {
-    let mut x: usize = 0;
-    while x < n {
-        into[x] = number(text, 4 * x + at);
-        x += 1;
+    for (x, argument) in into.iter_mut().enumerate() {
+        *argument = number(text, 4 * x + at);
     }
 }
 
 // Whether the argument y of a declared slot may stand: no slot, or a declared one.
-fn stands(n: usize, a: &[u16; 4096], y: u16) -> bool
-    requires { n ≤ 4096 }
-    ensures { Says (Stands n a.now y) result }
+fn stands(g: Graph, y: u16) -> bool
+    requires { g.n ≤ 4096 }
+    ensures { Says (Stands g.entry.n g.entry.a.now y) result }
 {
-    let i = y as usize;
-    if n <= i {
-        return true;
-    }
-    if a[i] == UNDECLARED {
-        return false;
-    }
-    true
+    let i = usize::from(y);
+    g.n <= i || g.a[i] != UNDECLARED
 }
 
 // Whether slot x is not declared or its arguments stand.
-fn sure(n: usize, a: &[u16; 4096], b: &[u16; 4096], x: usize) -> bool
-    requires { (n ≤ 4096) × (x < n) }
-    ensures { Says (Sure n a.now b.now x) result }
+fn sure(g: Graph, x: usize) -> bool
+    requires { (g.n ≤ 4096) × (x < g.n) }
+    ensures { Says (Sure g.entry.n g.entry.a.now g.entry.b.now x) result }
 {
-    if a[x] == UNDECLARED {
-        return true;
-    }
-    if !stands(n, a, a[x]) {
-        return false;
-    }
-    if !stands(n, a, b[x]) {
-        return false;
-    }
-    true
+    g.a[x] == UNDECLARED || stands(g, g.a[x]) && stands(g, g.b[x])
 }
 
 // Whether what declared slots read is declared.
-fn is_closed(n: usize, a: &[u16; 4096], b: &[u16; 4096]) -> bool
-    requires { (n ≤ 4096) × (n ≤ length a.now) × (n ≤ length b.now) }
-    ensures { Says (Closed (graph_of n a.now b.now)) result }
+fn is_closed(g: Graph) -> bool
+    requires { (g.n ≤ 4096) × (g.n ≤ length g.a.now) × (g.n ≤ length g.b.now) }
+    ensures { Says (Closed (graph_of g.entry.n g.entry.a.now g.entry.b.now)) result }
 {
-    let mut x: usize = 0;
-    while x < n {
-        if !sure(n, a, b, x) {
-            return false;
-        }
-        x += 1;
-    }
-    true
+    (0..g.n).all(|x| sure(g, x))
 }
 
 // How many circles or slots there are, and what the lists of members and of ends have in the middle.
@@ -119,83 +98,63 @@ struct Found {
     end: u16,
 }
 
-fn member_at(members: &[u16; 4096], i: usize) -> u16
-    requires { i < 4096 }
-{
-    members[i]
-}
-
-fn end_at(ends: &[u16; 4097], i: usize) -> u16
-    requires { i < 4097 }
-{
-    ends[i]
-}
-
 // Counts the circles of the graph, or its slots. The arrays are made in both cases and looked into, so that the ranking is the only difference and all of it is done.
-fn counted(n: usize, a: &[u16; 4096], b: &[u16; 4096], rank: bool) -> Found
-    requires { Given n a.now b.now }
-    ensures { result.count ≡ cond rank (length (ranked (graph_of n a.now b.now))) n }
+fn counted(g: Graph, task: Task) -> Found
+    requires { Given g.n g.a.now g.b.now }
+    ensures { (task ≡ Task.Rank → result.count ≡ length (ranked (graph_of g.entry.n g.entry.a.now g.entry.b.now))) × (task ≡ Task.Read → result.count ≡ g.entry.n) }
 {
-    let mut label = [0u16; 4096];
-    let mut members = [0u16; 4096];
-    let mut ends = [0u16; 4097];
-    let middle = n / 2;
-    if rank {
-        let count = circles_rank::rank_circles(n, a, b, &mut label, &mut members, &mut ends);
-        return Found {
-            count: count,
-            member: member_at(&members, middle),
-            end: end_at(&ends, middle),
-        };
-    }
+    let mut label = [0u16; SLOTS];
+    let mut members = [0u16; SLOTS];
+    let mut ends = [0u16; ENDS];
+    let count = match task {
+        Task::Rank => rank_circles(g.n, g.a, g.b, &mut label, &mut members, &mut ends),
+        Task::Read => g.n,
+    };
+    let middle = g.n / 2;
     Found {
-        count: n,
-        member: member_at(&members, middle),
-        end: end_at(&ends, middle),
+        count,
+        member: members[middle],
+        end: ends[middle],
     }
 }
 
-fn show(output: Stdout, n: u64) -> io::Result<()> {
-    println!(output; "{n}")
-}
-
-fn tell(output: Stdout, n: usize, a: &[u16; 4096], b: &[u16; 4096], rank: bool) -> io::Result<()>
-    requires { (n ≤ 4096) × (n ≤ length a.now) × (n ≤ length b.now) }
+fn tell(output: Stdout, g: Graph, task: Task) -> io::Result<()>
+    requires { (g.n ≤ 4096) × (g.n ≤ length g.a.now) × (g.n ≤ length g.b.now) }
 {
-    if !is_closed(n, a, b) {
+    if !is_closed(g) {
         return println!(output; "a declared slot reads one that is not");
     }
-    let c = counted(n, a, b, rank);
-    show(output, c.count as u64)?;
-    show(output, c.member as u64)?;
-    show(output, c.end as u64)
+    let Found { count, member, end } = counted(g, task);
+    println!(output; "{count}")?;
+    println!(output; "{member}")?;
+    println!(output; "{end}")
 }
 
-fn answer(output: Stdout, text: &[u8], rank: bool) -> io::Result<()> {
+fn answer(output: Stdout, text: &[u8], task: Task) -> io::Result<()> {
     if text.len() < 2 {
         return println!(output; "the text is too short");
     }
-    let n = number(text, 0) as usize;
+    let n = usize::from(number(text, 0));
     if SLOTS < n {
         return println!(output; "more than 4096 slots");
     }
     if text.len() < 4 * n + 2 {
         return println!(output; "the text is too short");
     }
-    let mut a = [UNDECLARED; 4096];
-    let mut b = [NO_SLOT; 4096];
-    fill(text, n, 2, &mut a);
-    fill(text, n, 4, &mut b);
-    tell(output, n, &a, &b, rank)
+    let mut a = [UNDECLARED; SLOTS];
+    let mut b = [NO_SLOT; SLOTS];
+    fill(text, 2, &mut a[..n]);
+    fill(text, 4, &mut b[..n]);
+    let g = Graph { n, a: &a, b: &b };
+    tell(output, g, task)
 }
 
 fn main(rt: HostRuntime) -> io::Result<()> {
     let output = rt.stdout();
-    let asked = asked(&rt);
-    if asked == 0 {
+    let Some(task) = asked(&rt) else {
         return println!(output; "usage: bench_ranks rank|read < GRAPH");
-    }
-    let mut text = [0u8; 16386];
+    };
+    let mut text = [0u8; TEXT];
     let length = read_full(&mut rt.stdin(), &mut text);
-    answer(output, &text[..length], asked == 2)
+    answer(output, &text[..length], task)
 }

@@ -5,7 +5,7 @@ use native.Mathlib.Decide.{dec_lt}
 use mathlib.Core.Path.{◌≡◌, sym, ap, subst, ◌∙◌}
 use mathlib.Core.Bool.{Bool, true, false, cond, ◌&&◌, true≢false}
 use mathlib.Core.List.{List, []}
-use mathlib.Core.Logic.{◌⊎◌, ⊎_elim, dite}
+use mathlib.Core.Logic.{⊎_elim, dite}
 use lib.ListN.{length, get_or, get_or-eq_default}
 use Rattle.circles.specs.Graph.{Graph, Reaches, Together, LeastOf, Closed, here}
 use Rattle.circles.specs.Ranked.{has, first_of, slots, reaching, reachings, label_in, labels_by, labels_of, label_at}

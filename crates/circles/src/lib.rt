@@ -11,6 +11,14 @@ pub const NO_SLOT: u16 = 65_535;
 
 pub const UNDECLARED: u16 = 65_534;
 
+// The slots 0 to n - 1 and what each reads: a[x] and b[x], of which a number past the slots is none; a[x] is 65534 where x is not declared.
+#[derive(Clone, Copy)]
+pub struct Graph<'a> {
+    pub n: usize,
+    pub a: &'a [u16; SLOTS],
+    pub b: &'a [u16; SLOTS],
+}
+
 // A slot's number as an index.
 pub fn wide(x: u16) -> usize
     ensures { result ≡ x }

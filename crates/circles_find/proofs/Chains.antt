@@ -122,6 +122,13 @@ upto_more Q {e} e' u keeps q t = record {
       (λ c. dite (dec_lt i e) (λ d. keeps i h₂ (u.past i d h₂ h₃)) (λ d. absurd (t.skip i (omega (arith, c, d)) h₁ h₂ h₃)));
 }
 
+-- the least place of y on its chain, and the one behind the place e
+pub chain_first : {f : ℕ → ℕ} {m n : ℕ} {first next : List ℕ} {y e : ℕ} → Chained f m n first next → y < n → e ≡ get_or first y 0 → Next f m y 0 e
+chain_first {f} {m} {y} C yl q = subst (λ (u : ℕ). Next f m y 0 u) (sym q) (C.start y yl)
+
+pub chain_next : {f : ℕ → ℕ} {m n : ℕ} {first next : List ℕ} {y e e' : ℕ} → Chained f m n first next → y < n → e < m → f e ≡ y → e' ≡ get_or next e 0 → Next f m y (e + 1) e'
+chain_next {f} {m} {e} C yl el h q = subst₂ (λ u v. Next f m u (e + 1) v) h (sym q) (C.step e el (omega (arith, h)))
+
 -- ---- the row of the arguments
 
 module _ (a b : List ℕ) (x e : ℕ) where

@@ -70,7 +70,7 @@ done_more {E} {okay} {k} {x} {m} {q} {h} v e all d = record {
       (λ c. d.all i (omega (arith, c)) z w);
 }
 
-module _ (n : ℕ) (E : ℕ → ℕ → Type 0) (okay : List ℕ) (k x : ℕ) (m₀ : List ℕ) where
+module _ {n : ℕ} {E : ℕ → ℕ → Type 0} {okay : List ℕ} {k x : ℕ} {m₀ : List ℕ} where
   room : (m q : List ℕ) (t y : ℕ) → Front n E okay k x m₀ m q t → y < n → (get_or m y 0 ≡ x → ⊥) → t < length m₀
   room m q t y f l ne = omega (arith, f.counted, f.lenm, stamped_lt x m y (omega (arith, f.lenm, f.long)) ne)
 
@@ -131,11 +131,11 @@ module _ (n : ℕ) (E : ℕ → ℕ → Type 0) (okay : List ℕ) (k x : ℕ) (m
       seen = λ _ _. at_y;
     }
 
-  pub looked : (m q m' q' : List ℕ) (t r y v : ℕ) → Front n E okay k x m₀ m q t → v < n → get_or m v 0 ≡ x → (y < n → E v y) → Visited n y x okay k m q m' q' t r → Looked n E okay k x m₀ m q t y m' q' r
-  looked m q m' q' t r y v f vl vm e (skipped h em eq er) =
+  pub looked : {m q m' q' : List ℕ} {t r y v : ℕ} → Front n E okay k x m₀ m q t → v < n → get_or m v 0 ≡ x → (y < n → E v y) → Visited n y x okay k m q m' q' t r → Looked n E okay k x m₀ m q t y m' q' r
+  looked {m} {q} {t} {y} {v} f vl vm e (skipped h em eq er) =
       subst₃ (λ m' q' r. Looked n E okay k x m₀ m q t y m' q' r) (sym em) (sym eq) (sym er)
       (record { front = f; grew = record { stays = λ z u. u; same = λ i l. refl; longer = le_refl t }; seen = h })
-  looked m q m' q' t r y v f vl vm e (added yl yk ne em eq er) =
+  looked {m} {q} {t} {y} {v} f vl vm e (added yl yk ne em eq er) =
       subst₃ (λ m' q' r. Looked n E okay k x m₀ m q t y m' q' r) (sym em) (sym eq) (sym er) (looked_added m q t y v f vl vm yl yk ne (e yl))
 
   -- the search begins: x alone is marked and queued
@@ -161,8 +161,8 @@ module _ (n : ℕ) (E : ℕ → ℕ → Type 0) (okay : List ℕ) (k x : ℕ) (m
       }
 
   -- the search ends: the whole queue is done with
-  pub ended : (m q : List ℕ) (h t : ℕ) → x < n → ((u v : ℕ) → E u v → v < n) → Front n E okay k x m₀ m q t → Done E okay k x m q h → t ≤ h → Found n E okay k x m₀ m
-  ended m q h t xl below f d l = record {
+  pub ended : {m q : List ℕ} {h t : ℕ} → x < n → ((u v : ℕ) → E u v → v < n) → Front n E okay k x m₀ m q t → Done E okay k x m q h → t ≤ h → Found n E okay k x m₀ m
+  ended {m} {q} xl below f d l = record {
     sound = f.sound;
     complete = λ y p. (closed (λ z. (z < n) × (get_or m z 0 ≡ x)) (xl, f.begun)
         (λ u z w e. let i = f.marked u w.0 w.1 in
@@ -172,8 +172,8 @@ module _ (n : ℕ) (E : ℕ → ℕ → Type 0) (okay : List ℕ) (k x : ℕ) (m
   }
 
   -- said of the marks before x was marked
-  pub found_before : (m : List ℕ) → Found n E okay k x (set m₀ x x) m → Found n E okay k x m₀ m
-  found_before m f = record {
+  pub found_before : {m : List ℕ} → Found n E okay k x (set m₀ x x) m → Found n E okay k x m₀ m
+  found_before {m} f = record {
     sound = f.sound;
     complete = f.complete;
     frame = λ y. dite (ℕ_discrete y x)
@@ -182,8 +182,8 @@ module _ (n : ℕ) (E : ℕ → ℕ → Type 0) (okay : List ℕ) (k x : ℕ) (m
   }
 
   -- where one alone is queued, x alone is marked
-  pub lone : (m q : List ℕ) (t : ℕ) → Front n E okay k x m₀ m q t → Lone n x m t
-  lone m q t f = record {
+  pub lone : {m q : List ℕ} {t : ℕ} → Front n E okay k x m₀ m q t → Lone n x m t
+  lone {q} f = record {
     alone = λ e y yl h. let w = f.marked y yl h in
         let z : w.0 ≡ 0 = omega (arith, w.1, e) in
         sym w.2 ∙ ap (λ (i : ℕ). get_or q i 0) z ∙ f.head.1;

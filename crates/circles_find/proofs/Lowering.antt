@@ -1,14 +1,13 @@
 -- From the labels by any member to the labels by the least, and to the labels as they compute. Assumes nothing.
-use Prim.Native.Nat.{ℕ, suc, ◌+◌, ◌≤◌, ◌<◌}
+use Prim.Native.Nat.{ℕ, ◌≤◌, ◌<◌}
 use native.Mathlib.Omega.{arith}
-use native.Mathlib.Decide.{ℕ_discrete, dec_lt}
-use native.Mathlib.Numerals.{add-one}
+use native.Mathlib.Decide.{dec_lt}
 use mathlib.Core.Path.{◌≡◌, refl, sym, ap, subst, ◌∙◌}
 use mathlib.Core.Bool.{Bool, true, false, true≢false}
 use mathlib.Core.List.{List, ◌++◌}
 use mathlib.Core.Logic.{⊎_elim, dite}
-use lib.ListN.{length, get_or, set, take, drop, length-set, take-append-drop}
-use lib.Seq.{get_or-set_same, get_or-set_other, get_or-take, drop-set-lt, drop-drop, length-take-le, ext_get_or}
+use lib.ListN.{length, get_or, take, drop, take-append-drop}
+use lib.Seq.{get_or-take, length-take-le, ext_get_or}
 use Rattle.circles.specs.Graph.{LeastOf}
 use Rattle.circles.specs.Ranked.{labels_of, label_at}
 use Rattle.circles.specs.Arrays.{Given, graph_of, over}
@@ -21,24 +20,6 @@ use Rattle.circles_find.proofs.Rolls.{roll_same}
 use Rattle.circles_find.proofs.Holding.{is_declared, was_declared, round_together, together_round}
 use Rattle.circles.proofs.Lists.{default_is}
 
-drop_more : (l m : List ℕ) (i : ℕ) → drop i l ≡ drop i m → drop (suc i) l ≡ drop (suc i) m
-drop_more l m i e = sym (drop_drop_one l i) ∙ ap (drop 1) e ∙ drop_drop_one m i
-  where
-    drop_drop_one : (l : List ℕ) (i : ℕ) → drop 1 (drop i l) ≡ drop (suc i) l
-    drop_drop_one l i = drop-drop 1 i l ∙ ap (λ (u : ℕ). drop u l) (add-one i)
-
-pub cleared_none : (label : List ℕ) → Cleared label 0 label
-cleared_none label = record { none = λ y h. absurd (omega arith); long = refl; rest = refl }
-
-pub cleared_more : (label₀ label : List ℕ) (i : ℕ) → i < length label → Cleared label₀ i label → Cleared label₀ (i + 1) (set label i 65535)
-cleared_more label₀ label i il L = record {
-  none = λ y h. dite (ℕ_discrete y i)
-      (λ c. ap (λ (u : ℕ). get_or (set label i 65535) u 0) c ∙ get_or-set_same label i 65535 0 il)
-      (λ c. get_or-set_other label i y 65535 0 c ∙ L.none y (omega (arith, c)));
-  long = length-set label i 65535 ∙ L.long;
-  rest = drop-set-lt (i + 1) label i 65535 (omega arith) ∙ ap (λ (u : ℕ). drop u label) (add-one i) ∙ drop_more label label₀ i L.rest ∙ ap (λ (u : ℕ). drop u label₀) (sym (add-one i));
-}
-
 -- the first k of the list have their least
 pub record Partway (n : ℕ) (rep low slots label₀ : List ℕ) (k : ℕ) (label : List ℕ) : Type 0 where
   pub least : (j : ℕ) → j < k → get_or label (get_or slots j 0) 0 ≡ get_or low (get_or rep (get_or slots j 0) 0) 0
@@ -46,34 +27,9 @@ pub record Partway (n : ℕ) (rep low slots label₀ : List ℕ) (k : ℕ) (labe
   pub long : length label ≡ length label₀
   pub rest : drop n label ≡ drop n label₀
 
-module _ (n d : ℕ) (rep low slots label₀ : List ℕ) (R : Roll (Marked n rep) n slots d) where
-  pub partway_none : ((y : ℕ) → y < n → get_or label₀ y 0 ≡ 65535) → Partway n rep low slots label₀ 0 label₀
-  partway_none f = record { least = λ j h. absurd (omega arith); none = λ x h _. f x h; long = refl; rest = refl }
-
-  pub partway_more : (label : List ℕ) (k : ℕ) → k < d → get_or slots k 0 < length label → Partway n rep low slots label₀ k label → Partway n rep low slots label₀ (k + 1) (set label (get_or slots k 0) (get_or low (get_or rep (get_or slots k 0) 0) 0))
-  partway_more label k kd xl L =
-      let x : ℕ = get_or slots k 0 in
-      let v : ℕ = get_or low (get_or rep (get_or slots k 0) 0) 0 in
-      record {
-        least = λ j h. dite (ℕ_discrete j k)
-            (λ c. subst (λ (u : ℕ). get_or (set label (get_or slots k 0) (get_or low (get_or rep (get_or slots k 0) 0) 0)) (get_or slots u 0) 0 ≡ get_or low (get_or rep (get_or slots u 0) 0) 0) (sym c) (get_or-set_same label (get_or slots k 0) (get_or low (get_or rep (get_or slots k 0) 0) 0) 0 xl))
-            (λ c. get_or-set_other label (get_or slots k 0) (get_or slots j 0) (get_or low (get_or rep (get_or slots k 0) 0) 0) 0 (λ q. omega (arith, q, R.rises j k (omega (arith, c)) kd)) ∙ L.least j (omega (arith, c)));
-        none = λ y h r. get_or-set_other label (get_or slots k 0) y (get_or low (get_or rep (get_or slots k 0) 0) 0) 0 (λ q. omega (arith, r, R.is k kd, ap (λ (u : ℕ). get_or rep u 0) q)) ∙ L.none y h r;
-        long = length-set label (get_or slots k 0) (get_or low (get_or rep (get_or slots k 0) 0) 0) ∙ L.long;
-        rest = drop-set-lt n label (get_or slots k 0) (get_or low (get_or rep (get_or slots k 0) 0) 0) (R.within k kd) ∙ L.rest;
-      }
-
-  pub partway_all : (label : List ℕ) (k : ℕ) → d ≤ k → Partway n rep low slots label₀ k label → Lowered n rep low label₀ label
-  partway_all label k h L = record {
-    some = λ x xl m. let w = R.all x xl m in subst (λ (u : ℕ). get_or label u 0 ≡ get_or low (get_or rep u 0) 0) w.2 (L.least w.0 (omega (arith, w.1)));
-    none = L.none;
-    long = L.long;
-    rest = L.rest;
-  }
-
 -- said of the labels before they were cleared
-pub lowered_cleared : (n : ℕ) (rep low label₀ label₁ label : List ℕ) → Cleared label₀ n label₁ → Lowered n rep low label₁ label → Lowered n rep low label₀ label
-lowered_cleared n rep low label₀ label₁ label c L = record { some = L.some; none = L.none; long = L.long ∙ c.long; rest = L.rest ∙ c.rest }
+pub lowered_cleared : {n : ℕ} {rep low label₀ label₁ label : List ℕ} → Cleared label₀ n label₁ → Lowered n rep low label₁ label → Lowered n rep low label₀ label
+lowered_cleared c L = record { some = L.some; none = L.none; long = L.long ∙ c.long; rest = L.rest ∙ c.rest }
 
 -- ---- the labels by the least are the labels as they compute, and their chains are the circles
 
@@ -90,14 +46,14 @@ reps_undeclared n a b rep Q R x xl d =
     (λ u. absurd (true≢false (sym (reached_declared Q.closed (is_declared n a b Q.long_a Q.long_b (get_or rep x 0) u.0 (R.stated x xl u.0)) (round_together n a b Q.long_a Q.long_b _ x u.1).0) ∙ d)))
     (R.own x xl)
 
-pub labelled_stated : (n : ℕ) (a b rep : List ℕ) → Given n a b → Reps n a b rep → (y : ℕ) → y < n → Marked n rep y → Stated a y
-labelled_stated n a b rep Q R y yl m = by ((graph_of n a b).declared y) refl
+pub labelled_stated : {n : ℕ} {a b rep : List ℕ} → Given n a b → Reps n a b rep → (y : ℕ) → y < n → Marked n rep y → Stated a y
+labelled_stated {n} {a} {b} {rep} Q R y yl m = by ((graph_of n a b).declared y) refl
   where
     by : (t : Bool) → (graph_of n a b).declared y ≡ t → Stated a y
     by true d = (was_declared n a b Q.long_a Q.long_b y d).1
     by false d = absurd (omega (arith, m, Q.few, reps_undeclared n a b rep Q R y yl d))
 
-module _ (n : ℕ) (a b rep low after label₀ label : List ℕ) (Q : Given n a b) (R : Reps n a b rep) (all : (y : ℕ) → y < n → (get_or a y 0 ≡ 65534 → ⊥) → get_or rep y 0 < n)
+module _ {n : ℕ} {a b rep low after label₀ label : List ℕ} (Q : Given n a b) (R : Reps n a b rep) (all : (y : ℕ) → y < n → (get_or a y 0 ≡ 65534 → ⊥) → get_or rep y 0 < n)
     (C : Chained (value_in rep) n n low after) (L : Lowered n rep low label₀ label) (ll : n ≤ length label₀) where
   by_rep : (y : ℕ) → y < n → get_or rep y 0 < n → Round n a b (get_or rep y 0) y
   by_rep y h r = ⊎_elim (λ u. absurd (omega (arith, u, r, Q.few))) (λ u. u.1) (R.own y h)
@@ -129,7 +85,7 @@ module _ (n : ℕ) (a b rep low after label₀ label : List ℕ) (Q : Given n a 
     within = round_together n a b Q.long_a Q.long_b x (get_or label x 0) (same_round x (get_or label x 0) xl (omega (arith, at_most x xl r)) r (sym (rep_label x xl r)));
     least = λ y t. let yl : y < n = end_below (graph_of n a b) xl t.0 in
         dite (dec_lt y (get_or low (get_or rep x 0) 0))
-        (λ d. absurd ((C.start (get_or rep x 0) r).skip y (omega arith) d yl (R.whole x y xl yl r (together_round n a b Q.long_a Q.long_b Q.closed x y (is_declared n a b Q.long_a Q.long_b x xl (labelled_stated n a b rep Q R x xl r)) t))))
+        (λ d. absurd ((C.start (get_or rep x 0) r).skip y (omega arith) d yl (R.whole x y xl yl r (together_round n a b Q.long_a Q.long_b Q.closed x y (is_declared n a b Q.long_a Q.long_b x xl (labelled_stated Q R x xl r)) t))))
         (λ d. omega (arith, d, is x xl r));
   }
 
@@ -145,10 +101,10 @@ module _ (n : ℕ) (a b rep low after label₀ label : List ℕ) (Q : Given n a 
       ∙ ap (λ (u : ℕ). labels_of (graph_of n a b) ++ drop u label) q ∙ ap (λ (u : List ℕ). labels_of (graph_of n a b) ++ u) L.rest ∙ ap (λ (u : ℕ). labels_of (graph_of n a b) ++ drop u label₀) (sym q)
 
   -- the list of the declared slots is that of the labels
-  pub roll_labels : (slots : List ℕ) (d : ℕ) → Roll (Stated a) n slots d → Roll (Marked n label) n slots d
-  roll_labels slots d = roll_same (Stated a) (Marked n label) n d slots
+  pub roll_labels : {slots : List ℕ} {d : ℕ} → Roll (Stated a) n slots d → Roll (Marked n label) n slots d
+  roll_labels = roll_same
       (λ y yl h. omega (arith, at_most y yl (all y yl h)))
-      (λ y yl h. labelled_stated n a b rep Q R y yl (has_rep y yl h))
+      (λ y yl h. labelled_stated Q R y yl (has_rep y yl h))
 
   pub kin : Kin n label after
   kin = record {

@@ -1,37 +1,19 @@
 -- The list of the slots of a kind, as it grows and as it is gone through. Assumes nothing.
-use Prim.Native.Nat.{ℕ, ◌+◌, ◌*◌, ◌/◌, ◌≤◌, ◌<◌}
+use Prim.Native.Nat.{ℕ, ◌+◌, ◌-◌, ◌*◌, ◌/◌, ◌≤◌, ◌<◌}
 use native.Mathlib.Omega.{arith}
 use native.Mathlib.Decide.{ℕ_discrete}
 use mathlib.Core.Path.{◌≡◌, refl, sym, ap, subst, ◌∙◌}
-use mathlib.Core.List.{List}
+use mathlib.Core.List.{List, reverse}
 use mathlib.Core.Logic.{dite}
-use lib.ListN.{length, get_or, set, length-set}
-use lib.Seq.{get_or-set_same, get_or-set_other}
+use lib.ListN.{length, get_or, set, take, length-set}
+use lib.Seq.{get_or-set_same, get_or-set_other, get_or-take, length-take-le}
+use Rattle.std.proofs.lemmas.List.{length-reverse, get_or-reverse}
+use Rattle.circles.proofs.Lists.{default_is}
 use Rattle.circles_find.specs.Inner.Search.{Roll, Marked, Stated, Blank, Chained, Linked, value_in, arg_of}
 use Rattle.circles_find.proofs.Chains.{Partly, partly_none, partly_down, partly_more, partly_all, arg_off, arg_even, arg_odd}
 
-module _ (P : ℕ → Type 0) where
-  pub roll_none : (slots : List ℕ) → Roll P 0 slots 0
-  roll_none slots = record {
-    few = omega arith;
-    long = omega arith;
-    within = λ k h. absurd (omega arith);
-    is = λ k h. absurd (omega arith);
-    rises = λ j k h₁ h₂. absurd (omega arith);
-    all = λ y h. absurd (omega arith);
-  }
-
-  module _ (slots : List ℕ) (i d : ℕ) (R : Roll P i slots d) where
-    pub roll_skip : (P i → ⊥) → Roll P (i + 1) slots d
-    roll_skip ne = record {
-      few = omega (arith, R.few);
-      long = R.long;
-      within = λ k h. omega (arith, R.within k h);
-      is = R.is;
-      rises = R.rises;
-      all = λ y h p. R.all y (dite (ℕ_discrete y i) (λ c. absurd (ne (subst P c p))) (λ c. omega (arith, c))) p;
-    }
-
+module _ {P : ℕ → Type 0} where
+  module _ {slots : List ℕ} {i d : ℕ} (R : Roll P i slots d) where
     pub roll_more : P i → d < length slots → Roll P (i + 1) (set slots d i) (d + 1)
     roll_more p dl =
         let at-d : get_or (set slots d i) d 0 ≡ i = get_or-set_same slots d i 0 dl in
@@ -52,8 +34,8 @@ module _ (P : ℕ → Type 0) where
               (λ c. let w = R.all y (omega (arith, c)) q in (w.0, omega (arith, w.1), old w.0 w.1 ∙ w.2));
         }
 
-pub roll_same : (P Q : ℕ → Type 0) (n d : ℕ) (slots : List ℕ) → ((y : ℕ) → y < n → P y → Q y) → ((y : ℕ) → y < n → Q y → P y) → Roll P n slots d → Roll Q n slots d
-roll_same P Q n d slots to of R = record {
+pub roll_same : {P Q : ℕ → Type 0} {n d : ℕ} {slots : List ℕ} → ((y : ℕ) → y < n → P y → Q y) → ((y : ℕ) → y < n → Q y → P y) → Roll P n slots d → Roll Q n slots d
+roll_same {slots} to of R = record {
   few = R.few;
   long = R.long;
   within = R.within;
@@ -62,7 +44,28 @@ roll_same P Q n d slots to of R = record {
   all = λ y h q. R.all y h (of y h q);
 }
 
+-- the list alone, without what stands behind it
+pub roll_front : {P : ℕ → Type 0} {n d : ℕ} {slots : List ℕ} → Roll P n slots d → Roll P n (take d slots) (length (take d slots))
+roll_front {P} {d} {slots} R =
+    let all : length (take d slots) ≡ d = length-take-le d slots R.long in
+    let at : (k : ℕ) → k < d → get_or (take d slots) k 0 ≡ get_or slots k 0 = λ k h. get_or-take d slots k 0 h in
+    let below : (k : ℕ) → k < length (take d slots) → k < d = λ k h. omega arith in
+    record {
+      few = omega (arith, all, R.few);
+      long = omega arith;
+      within = λ k h. omega (arith, at k (below k h), R.within k (below k h));
+      is = λ k h. subst P (sym (at k (below k h))) (R.is k (below k h));
+      rises = λ j k h₁ h₂. let kd = below k h₂ in let jd : j < d = omega arith in omega (arith, at j jd, at k kd, R.rises j k h₁ kd);
+      all = λ y h p. let w = R.all y h p in (w.0, omega (arith, w.1), at w.0 w.1 ∙ w.2);
+    }
+
 -- ---- chains along a list, from its end
+
+-- what comes after n others from the end of the list
+pub from_end : (xs : List ℕ) (n x : ℕ) → (n < length (reverse xs)) × (x ≡ get_or (reverse xs) n x) → (n < length xs) × (x ≡ get_or xs (length xs - 1 - n) 0)
+from_end xs n x w =
+    let h : n < length xs = omega (arith, w.0, length-reverse xs) in
+    (h, w.1 ∙ get_or-reverse xs n x h ∙ default_is xs (length xs - 1 - n) x 0 (omega arith))
 
 -- the row f has its places slot by slot, those of x from top x on, and what it has at those is a slot only where P holds of x
 pub record Rows (P : ℕ → Type 0) (f top : ℕ → ℕ) (m n : ℕ) : Type 0 where

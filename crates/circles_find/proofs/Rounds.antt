@@ -8,7 +8,7 @@ use native.Mathlib.Decide.{ℕ_discrete, dec_lt}
 use lib.ListN.{get_or, length, set}
 use lib.Seq.{get_or-set_same, get_or-set_other}
 use Rattle.circles.specs.Graph.{Path⁺, here, there}
-use Rattle.circles_find.specs.Inner.Search.{Arg, Clean, Via, Back, Found, Blank, Stated, Marked, Roll}
+use Rattle.circles_find.specs.Inner.Search.{Arg, Clean, Via, Back, Found, Stated, Marked, Roll}
 use Rattle.circles_find.specs.Inner.Labels.{Round, Reps, Stale, Seeded, Took}
 use Rattle.circles.proofs.Paths.{join, mapped, turned, inside, closed}
 
@@ -26,32 +26,14 @@ below : (n : ℕ) (a b : List ℕ) {x y : ℕ} → x < n → Path⁺ (Arg n a b)
 below n a b h here = h
 below n a b h (there p e) = e.1
 
-module _ (n : ℕ) (nl : n ≤ 4096) (a b : List ℕ) where
+module _ {n : ℕ} (nl : n ≤ 4096) (a b : List ℕ) where
   circ_sym : {x y : ℕ} → Round n a b x y → Round n a b y x
   circ_sym c = (c.1, c.0)
 
   circ_trans : {x y z : ℕ} → Round n a b x y → Round n a b y z → Round n a b x z
   circ_trans c d = (join c.0 d.0, join d.1 c.1)
 
-  pub reps_none : (r : List ℕ) → Blank n r → Reps n a b r
-  reps_none r bl = record {
-    long = bl.long;
-    own = λ y yl. inl (bl.blank y yl);
-    whole = λ y z yl zl h c. absurd (omega (arith, bl.blank y yl));
-    stated = λ y yl h. absurd (omega (arith, bl.blank y yl));
-  }
-
-  pub stale_none : (m r : List ℕ) → Blank n m → Stale n m r
-  stale_none m r bl = record { long = bl.long; used = λ y yl h. absurd (omega (arith, bl.blank y yl)) }
-
-  module _ (x : ℕ) (r : List ℕ) (R : Reps n a b r) (xl : x < n) (rx : get_or r x 0 ≡ 65533) where
-    pub clean_marks : (m : List ℕ) → Stale n m r → Clean n x m
-    clean_marks m s = record {
-      small = xl;
-      none = λ y yl h. let u : get_or r (get_or m y 0) 0 < n = s.used y yl (omega arith) in
-          omega (arith, ap (λ (v : ℕ). get_or r v 0) h);
-    }
-
+  module _ {x : ℕ} {r : List ℕ} (R : Reps n a b r) (xl : x < n) (rx : get_or r x 0 ≡ 65533) where
     pub clean_reps : Clean n x r
     clean_reps = record {
       small = xl;
@@ -67,8 +49,8 @@ module _ (n : ℕ) (nl : n ≤ 4096) (a b : List ℕ) where
         ⊎_elim (λ u. u) (λ u. let w : get_or r x 0 ≡ get_or r y 0 = R.whole y x yl xl u.0 (circ_sym c) in absurd (omega (arith, u.0))) (R.own y yl)
 
     -- where the first search finds x alone, the second is spared
-    pub found_lone : (m' : List ℕ) → ((y : ℕ) → y < n → get_or m' y 0 ≡ x → y ≡ x) → Found n (Arg n a b) m' x x r (set r x x)
-    found_lone m' alone =
+    pub found_lone : {m' : List ℕ} → ((y : ℕ) → y < n → get_or m' y 0 ≡ x → y ≡ x) → Found n (Arg n a b) m' x x r (set r x x)
+    found_lone {m' = m'} alone =
         let at_x : get_or (set r x x) x 0 ≡ x = get_or-set_same r x x 0 (omega (arith, R.long)) in
         record {
           sound = λ y yl h. dite (ℕ_discrete y x)
@@ -81,14 +63,14 @@ module _ (n : ℕ) (nl : n ≤ 4096) (a b : List ℕ) where
         }
 
     -- what gets to a declared slot by reading is declared
-    pub readers_stated : Stated a x → (m m' : List ℕ) → Found n (Back (Arg n a b)) r 65533 x m m' → (y : ℕ) → y < n → get_or m' y 0 ≡ x → Stated a y
-    readers_stated xd m m' f y yl h = back (f.sound y yl h)
+    pub readers_stated : Stated a x → {m m' : List ℕ} → Found n (Back (Arg n a b)) r 65533 x m m' → (y : ℕ) → y < n → get_or m' y 0 ≡ x → Stated a y
+    readers_stated xd f y yl h = back (f.sound y yl h)
       where
         back : {z : ℕ} → Path⁺ (Via (Back (Arg n a b)) r 65533) x z → Stated a z
         back here = xd
         back (there p e) = e.0.2
 
-    module _ (m m' r' : List ℕ) (S : Stale n m r) (f : Found n (Back (Arg n a b)) r 65533 x m m') (g : Found n (Arg n a b) m' x x r r') (lr : n ≤ length r') (lm : n ≤ length m') (xd : Stated a x) where
+    module _ {m m' r' : List ℕ} (S : Stale n m r) (f : Found n (Back (Arg n a b)) r 65533 x m m') (g : Found n (Arg n a b) m' x x r r') (lr : n ≤ length r') (lm : n ≤ length m') (xd : Stated a x) where
       sound : (y : ℕ) → y < n → get_or r' y 0 ≡ x → Round n a b x y
       sound y yl h =
           let p : Path⁺ (Via (Arg n a b) m' x) x y = g.sound y yl h in

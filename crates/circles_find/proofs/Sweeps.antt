@@ -39,10 +39,10 @@ pub seen_more : {f : ℕ → ℕ} {n v x : ℕ} {okay : List ℕ} {k : ℕ} {m m
 seen_more {x} {okay} {k} {m'} e' el u kp t = upto_more (Seen x okay k m') e' u (λ i _ p h. kp.stays (i / 2) (p h)) (kp.seen (omega arith)) t
 
 -- the looks of a sweep, in a search
-pub looks_front : (n : ℕ) (E : ℕ → ℕ → Type 0) (okay : List ℕ) (k x : ℕ) (m₀ m q : List ℕ) (t v : ℕ) (P : ℕ → Type 0) → Front n E okay k x m₀ m q t → v < n → get_or m v 0 ≡ x → ((y : ℕ) → P y → y < n → E v y)
+pub looks_front : {n : ℕ} {E : ℕ → ℕ → Type 0} {okay : List ℕ} {k x : ℕ} {m₀ m q : List ℕ} {t v : ℕ} {P : ℕ → Type 0} → Front n E okay k x m₀ m q t → v < n → get_or m v 0 ≡ x → ((y : ℕ) → P y → y < n → E v y)
     → {m' q' : List ℕ} {r : ℕ} → Looks n P x okay k m q t m' q' r → Front n E okay k x m₀ m' q' r × Grew x m q m' q' t r
-looks_front n E okay k x m₀ m q t v P f vl vm e begin = (f, record { stays = λ z u. u; same = λ i l. refl; longer = le_refl t })
-looks_front n E okay k x m₀ m q t v P f vl vm e (look y {m₁} {q₁} {m₂} {q₂} {t₁} {t₂} py ls vs) =
-    let ih = looks_front n E okay k x m₀ m q t v P f vl vm e ls in
-    let lk = looked n E okay k x m₀ m₁ q₁ m₂ q₂ t₁ t₂ y v ih.0 vl (ih.1.stays v vm) (e y py) vs in
+looks_front {t} f vl vm e begin = (f, record { stays = λ z u. u; same = λ i l. refl; longer = le_refl t })
+looks_front {v} f vl vm e (look y py ls vs) =
+    let ih = looks_front f vl vm e ls in
+    let lk = looked ih.0 vl (ih.1.stays v vm) (e y py) vs in
     (lk.front, grew_join ih.1 lk.grew)

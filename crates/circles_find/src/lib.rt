@@ -5,4 +5,4 @@ mod order;
 mod search;
 
 pub use order::UNSEEN;
-pub use search::{UNMARKED, circle_labels};
+pub use search::{Readers, UNMARKED, circle_labels};

@@ -2,7 +2,7 @@
 use Prim.Native.Nat.{ℕ, ◌+◌, ◌≤◌, ◌<◌, ◌/◌, ◌*◌}
 use native.Mathlib.Omega.{arith}
 use native.Mathlib.Decide.{ℕ_discrete, dec_lt}
-use mathlib.Core.Path.{◌≡◌, refl, sym, ap, subst, ◌∙◌}
+use mathlib.Core.Path.{◌≡◌, refl, sym, ap, subst, subst₂, ◌∙◌}
 use mathlib.Core.List.{List}
 use mathlib.Core.Logic.{◌⊎◌, inl, inr, ⊎_elim, dite}
 use lib.ListN.{get_or, set, length-set}
@@ -38,9 +38,13 @@ module _ (n : ℕ) (a b label taken after : List ℕ) (l x : ℕ) where
 
 -- ---- what a move does
 
-module _ (n : ℕ) (nl : n ≤ 4096) (a b label taken : List ℕ) where
-  pub moved_none : (cur ready : List ℕ) → Cursors n a b label taken cur → Bits ready → Moved n a b label taken cur ready cur ready
-  moved_none cur ready C B = record {
+-- the member y of the circle l has the next one behind it
+pub member_next : {n : ℕ} {label after : List ℕ} {l y y' : ℕ} → Kin n label after → l < n → y < n → get_or label y 0 ≡ l → y' ≡ get_or after y 0 → Next (value_in label) n l (y + 1) y'
+member_next {n} {label} {y} K ll yl e q = subst₂ (λ u v. Next (value_in label) n u (y + 1) v) e (sym q) (K.next y yl (omega (arith, e)))
+
+module _ {n : ℕ} (nl : n ≤ 4096) {a b label taken : List ℕ} where
+  pub moved_none : {cur ready : List ℕ} → Cursors n a b label taken cur → Bits ready → Moved n a b label taken cur ready cur ready
+  moved_none C B = record {
     cursors = C;
     bits = B;
     sure = λ l h o. inl refl;
@@ -67,7 +71,7 @@ module _ (n : ℕ) (nl : n ≤ 4096) (a b label taken : List ℕ) where
   }
 
   -- the cursor of j goes on to d
-  module _ (cur : List ℕ) (j d : ℕ) (C : Cursors n a b label taken cur) (jl : j < n) (jo : get_or label j 0 ≡ j) (cl : get_or cur j 0 < n) (A : Advanced n a b label taken j (get_or cur j 0) d) where
+  module _ {cur : List ℕ} {j d : ℕ} (C : Cursors n a b label taken cur) (jl : j < n) (jo : get_or label j 0 ≡ j) (cl : get_or cur j 0 < n) (A : Advanced n a b label taken j (get_or cur j 0) d) where
     at_j : get_or (set cur j d) j 0 ≡ d
     at_j = get_or-set_same cur j d 0 (omega (arith, C.long))
 
@@ -100,8 +104,8 @@ module _ (n : ℕ) (nl : n ≤ 4096) (a b label taken : List ℕ) where
     }
 
     -- short of the end
-    pub moved_on : (ready : List ℕ) → Bits ready → d < n → Moved n a b label taken cur ready (set cur j d) ready
-    moved_on ready B dl = record {
+    pub moved_on : {ready : List ℕ} → Bits ready → d < n → Moved n a b label taken cur ready (set cur j d) ready
+    moved_on B dl = record {
       cursors = all_cursors;
       bits = B;
       sure = all_sure;
@@ -114,8 +118,8 @@ module _ (n : ℕ) (nl : n ≤ 4096) (a b label taken : List ℕ) where
     }
 
     -- past the end
-    pub moved_past : (ready ready' : List ℕ) → Put j ready ready' → n ≤ d → Moved n a b label taken cur ready (set cur j d) ready'
-    moved_past ready ready' P dl = record {
+    pub moved_past : {ready ready' : List ℕ} → Put j ready ready' → n ≤ d → Moved n a b label taken cur ready (set cur j d) ready'
+    moved_past {ready' = ready'} P dl = record {
       cursors = all_cursors;
       bits = P.bits;
       sure = all_sure;

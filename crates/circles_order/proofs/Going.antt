@@ -96,7 +96,7 @@ same_more n taken tk l ll lt K =
           (or_parts (eqb j l) (member tk j) e);
     }
 
-module _ (n : ℕ) (a b label after taken tk : List ℕ) (Q : Given n a b) (N : Kin n label after) (E : Agrees n a b label) (K : Same n taken tk) where
+module _ {n : ℕ} {a b label after taken tk : List ℕ} (Q : Given n a b) (N : Kin n label after) (E : Agrees n a b label) (K : Same n taken tk) where
   abbrev L : List ℕ
   L = labels_of (graph_of n a b)
 
@@ -160,7 +160,7 @@ module _ (n : ℕ) (a b label after taken tk : List ℕ) (Q : Given n a b) (N : 
   unfolding circle_of
   of_circle l x xl e = of_keep (λ x. eqb (label_at L x) l) (of_slots x n xl) (eq-eqb (label_at L x) l (sym (E.at x xl) ∙ e))
 
-  module _ (cur rd rd₁ : List ℕ) (r : ℕ) (T : Turn n a b label taken cur rd n) (P : Pulled rd rd₁ r) where
+  module _ {cur rd rd₁ : List ℕ} {r : ℕ} (T : Turn n a b label taken cur rd n) (P : Pulled rd rd₁ r) where
     can_take : (l : ℕ) → l < 4096 → In rd l → takeable G L tk l ≡ true
     can_take l ll e =
         let w = T.is_ready l ll e in
@@ -228,16 +228,16 @@ going_none n a b taken members₀ ends₀ h un = record {
   ends_are = over_snoc [] ends₀ 0 h ∙ ap (λ (u : List ℕ). over u ends₀) (sym ends_none);
 }
 
-module _ (n : ℕ) (a b label after taken cur rd rd₁ members₀ ends₀ members ends : List ℕ) (count pos r : ℕ) (Q : Given n a b) (N : Kin n label after) (E : Agrees n a b label)
+module _ {n : ℕ} {a b label after taken cur rd rd₁ members₀ ends₀ members ends : List ℕ} {count pos r : ℕ} (Q : Given n a b) (N : Kin n label after) (E : Agrees n a b label)
     (T : Turn n a b label taken cur rd n) (P : Pulled rd rd₁ r) (g : Going n a b taken members₀ ends₀ members ends count pos) where
   R : List (List ℕ)
   R = map (circle_of (graph_of n a b) (labels_of (graph_of n a b))) g.ls
 
   same_circle : circle_of (graph_of n a b) (labels_of (graph_of n a b)) r ≡ members_from n label r 0
-  same_circle = circle_is n a b label after taken g.tk Q N E g.same r
+  same_circle = circle_is Q N E g.same r
 
   held_next : r < n → length (members_from n label r 0) + pos ≡ held_by (graph_of n a b) (labels_of (graph_of n a b)) (r ∷ g.tk)
-  held_next rl = omega (arith, g.held, ap length same_circle, held_more (graph_of n a b) (labels_of (graph_of n a b)) g.tk r (untaken n a b label after taken g.tk Q N E g.same cur rd rd₁ r T P rl))
+  held_next rl = omega (arith, g.held, ap length same_circle, held_more (graph_of n a b) (labels_of (graph_of n a b)) g.tk r (untaken Q N E g.same T P rl))
 
   pub going_room : r < n → pos + length (members_from n label r 0) ≤ n
   going_room rl = omega (arith, held_next rl, held_le (graph_of n a b) (labels_of (graph_of n a b)) (r ∷ g.tk))
@@ -247,7 +247,7 @@ module _ (n : ℕ) (a b label after taken cur rd rd₁ members₀ ends₀ member
   going_more rl cl lm le =
       let C : List ℕ = members_from n label r 0 in
       let step : ranking (n - count) (graph_of n a b) (labels_of (graph_of n a b)) g.tk ≡ r ∷ ranking (n - (count + 1)) (graph_of n a b) (labels_of (graph_of n a b)) (r ∷ g.tk) =
-      ap (λ (u : ℕ). ranking u (graph_of n a b) (labels_of (graph_of n a b)) g.tk) (let q : n - count ≡ suc (n - (count + 1)) = omega arith in q) ∙ takes n a b label after taken g.tk Q N E g.same cur rd rd₁ r T P rl (n - (count + 1)) in
+      ap (λ (u : ℕ). ranking u (graph_of n a b) (labels_of (graph_of n a b)) g.tk) (let q : n - count ≡ suc (n - (count + 1)) = omega arith in q) ∙ takes Q N E g.same T P rl (n - (count + 1)) in
       let mapped : map (circle_of (graph_of n a b) (labels_of (graph_of n a b))) (g.ls ++ (r ∷ [])) ≡ R ++ (members_from n label r 0 ∷ []) = map_snoc (circle_of (graph_of n a b) (labels_of (graph_of n a b))) g.ls r ∙ ap (λ (u : List ℕ). R ++ (u ∷ [])) same_circle in
       let el : length (ends_from 0 R) ≡ suc count = ends_long 0 R ∙ ap suc (length-map g.ls (circle_of (graph_of n a b) (labels_of (graph_of n a b))) ∙ g.counted) in
       record {
@@ -271,8 +271,8 @@ module _ (n : ℕ) (a b label after taken cur rd rd₁ members₀ ends₀ member
       }
 
 -- the ranking is at its end
-pub going_end : (n : ℕ) (a b taken members₀ ends₀ members ends : List ℕ) (count pos : ℕ) (g : Going n a b taken members₀ ends₀ members ends count pos) → ranking (n - count) (graph_of n a b) (labels_of (graph_of n a b)) g.tk ≡ [] → Listed (graph_of n a b) members₀ ends₀ members ends count
-going_end n a b taken members₀ ends₀ members ends count pos g e =
+pub going_end : {n : ℕ} {a b taken members₀ ends₀ members ends : List ℕ} {count pos : ℕ} (g : Going n a b taken members₀ ends₀ members ends count pos) → ranking (n - count) (graph_of n a b) (labels_of (graph_of n a b)) g.tk ≡ [] → Listed (graph_of n a b) members₀ ends₀ members ends count
+going_end {n} {a} {b} {members₀} {ends₀} {members} {ends} {count} {pos} g e =
     let all : g.ls ≡ ranking n (graph_of n a b) (labels_of (graph_of n a b)) [] = sym (g.whole ∙ ap (λ (u : List ℕ). g.ls ++ u) e ∙ append-nil g.ls) in
     let circles : map (circle_of (graph_of n a b) (labels_of (graph_of n a b))) g.ls ≡ ranked (graph_of n a b) = ap (map (circle_of (graph_of n a b) (labels_of (graph_of n a b)))) all ∙ ranked_is (graph_of n a b) in
     record {
@@ -282,8 +282,8 @@ going_end n a b taken members₀ ends₀ members ends count pos g e =
     }
 
 -- said of the ends before the first was written
-pub listed_first : (G : Graph) (members₀ ends₀ members ends : List ℕ) (count : ℕ) → Listed G members₀ (set ends₀ 0 0) members ends count → Listed G members₀ ends₀ members ends count
-listed_first G members₀ ends₀ members ends count w = record {
+pub listed_first : {G : Graph} {members₀ ends₀ members ends : List ℕ} {count : ℕ} → Listed G members₀ (set ends₀ 0 0) members ends count → Listed G members₀ ends₀ members ends count
+listed_first {G} {members₀} {ends₀} {members} {ends} {count} w = record {
   listed = w.listed;
   ended = w.ended ∙ ap (λ (u : List ℕ). ends_from 0 (ranked G) ++ u) (drop-set-lt (length (ends_from 0 (ranked G))) ends₀ 0 0 (omega (arith, ends_long 0 (ranked G))));
   counted = w.counted;

@@ -59,8 +59,8 @@ pub record Laying (n : ℕ) (label : List ℕ) (l : ℕ) (m₀ : List ℕ) (pos 
   pub sum : p + length (members_from n label l y) ≡ pos + length (members_from n label l 0)
   pub long : length m ≡ length m₀
 
-pub laying_start : (n : ℕ) (label after : List ℕ) (l : ℕ) (m₀ : List ℕ) (pos : ℕ) → Kin n label after → l < n → get_or label l 0 ≡ l → Laying n label l m₀ pos m₀ l pos
-laying_start n label after l m₀ pos K ll e =
+pub laying_start : {n : ℕ} {label after : List ℕ} {l : ℕ} {m₀ : List ℕ} {pos : ℕ} → Kin n label after → l < n → get_or label l 0 ≡ l → Laying n label l m₀ pos m₀ l pos
+laying_start {n} {label} {l} {m₀} {pos} K ll e =
     let q : members_from n label l 0 ≡ members_from n label l l = from_next n label l 0 l (omega arith) (record {
       from = omega arith;
       hit = λ _. e;
@@ -68,7 +68,7 @@ laying_start n label after l m₀ pos K ll e =
     }) in
     record { hit = λ _. e; whole = ap (λ (u : List ℕ). sets m₀ pos u) (sym q); sum = ap (λ (u : List ℕ). pos + length u) (sym q); long = refl }
 
-module _ (n : ℕ) (label : List ℕ) (l : ℕ) (m₀ : List ℕ) (pos : ℕ) (m : List ℕ) (y p : ℕ) (L : Laying n label l m₀ pos m y p) where
+module _ {n : ℕ} {label : List ℕ} {l : ℕ} {m₀ : List ℕ} {pos : ℕ} {m : List ℕ} {y p : ℕ} (L : Laying n label l m₀ pos m y p) where
   pub laying_room : pos + length (members_from n label l 0) ≤ length m₀ → y < n → p < length m
   laying_room h yl = omega (arith, L.sum, L.long, ap length (from_here n label l y yl (L.hit yl)))
 

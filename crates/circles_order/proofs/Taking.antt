@@ -27,7 +27,7 @@ turn_none n a b label taken cur ready o = record {
   done = λ l h e t. absurd (o.untaken l t);
 }
 
-module _ (n : ℕ) (a b label after taken cur ready : List ℕ) (i : ℕ) (K : Kin n label after) (il : i < n) (un : (y : ℕ) → get_or taken y 0 ≡ 1 → ⊥) (T : Turn n a b label taken cur ready i) where
+module _ {n : ℕ} {a b label after taken cur ready : List ℕ} {i : ℕ} (K : Kin n label after) (il : i < n) (un : (y : ℕ) → get_or taken y 0 ≡ 1 → ⊥) (T : Turn n a b label taken cur ready i) where
   pub turn_skip : (get_or label i 0 ≡ i → ⊥) → Turn n a b label taken cur ready (i + 1)
   turn_skip ne = record {
     flags = T.flags;
@@ -43,7 +43,7 @@ module _ (n : ℕ) (a b label after taken cur ready : List ℕ) (i : ℕ) (K : K
       below : (l : ℕ) → l < i + 1 → get_or label l 0 ≡ l → l < i
       below l h o = dite (ℕ_discrete l i) (λ c. absurd (ne (subst (λ (u : ℕ). get_or label u 0 ≡ u) c o))) (λ c. omega (arith, c))
 
-  module _ (d : ℕ) (own : get_or label i 0 ≡ i) (A : Advanced n a b label taken i i d) where
+  module _ {d : ℕ} (own : get_or label i 0 ≡ i) (A : Advanced n a b label taken i i d) where
     at_i : get_or (set cur i d) i 0 ≡ d
     at_i = get_or-set_same cur i d 0 (omega (arith, T.long, K.few))
 
@@ -75,8 +75,8 @@ module _ (n : ℕ) (a b label after taken cur ready : List ℕ) (i : ℕ) (K : K
       done = λ l h o t. absurd (un l t);
     }
 
-    pub turn_past : (ready' : List ℕ) → n ≤ d → Put i ready ready' → Turn n a b label taken (set cur i d) ready' (i + 1)
-    turn_past ready' dl P = record {
+    pub turn_past : {ready' : List ℕ} → n ≤ d → Put i ready ready' → Turn n a b label taken (set cur i d) ready' (i + 1)
+    turn_past {ready' = ready'} dl P = record {
       flags = T.flags;
       long = omega (arith, length-set cur i d, T.long);
       bits = P.bits;
@@ -117,9 +117,9 @@ pub record Started (n : ℕ) (a b label taken cur ready slots : List ℕ) (d k :
   pub ahead : (j : ℕ) → k ≤ j → j < d → at ≤ get_or slots j 0
   pub left : (y : ℕ) → at ≤ y → y < n → get_or label y 0 ≡ y → (j : ℕ) × (k ≤ j) × (j < d) × (get_or slots j 0 ≡ y)
 
-module _ (n : ℕ) (a b label taken slots : List ℕ) (d : ℕ) (R : Roll (Marked n label) n slots d) where
-  pub started_none : (cur ready : List ℕ) → Outset n taken cur ready → Started n a b label taken cur ready slots d 0
-  started_none cur ready o = record {
+module _ {n : ℕ} {a b label taken slots : List ℕ} {d : ℕ} (R : Roll (Marked n label) n slots d) where
+  pub started_none : {cur ready : List ℕ} → Outset n taken cur ready → Started n a b label taken cur ready slots d 0
+  started_none {cur} {ready} o = record {
     at = 0;
     few = omega arith;
     turn = turn_none n a b label taken cur ready o;
@@ -127,7 +127,7 @@ module _ (n : ℕ) (a b label taken slots : List ℕ) (d : ℕ) (R : Roll (Marke
     left = λ y h₁ h₂ e. let w = R.all y h₂ (omega (arith, e)) in (w.0, omega arith, w.1, w.2);
   }
 
-  module _ (cur ready : List ℕ) (k : ℕ) (S : Started n a b label taken cur ready slots d k) where
+  module _ {cur ready : List ℕ} {k : ℕ} (S : Started n a b label taken cur ready slots d k) where
     pub started_at : k < d → Turn n a b label taken cur ready (get_or slots k 0)
     started_at kd = turn_up n a b label taken cur ready S.at (get_or slots k 0) (S.ahead k (omega arith) kd)
         (λ l h₁ h₂ h₃ e. let w = S.left l h₁ h₃ e in dite (ℕ_discrete w.0 k)
@@ -135,8 +135,8 @@ module _ (n : ℕ) (a b label taken slots : List ℕ) (d : ℕ) (R : Roll (Marke
         (λ c. omega (arith, h₂, w.3, R.rises k w.0 (omega (arith, c, w.1)) w.2)))
         S.turn
 
-    pub started_more : (cur' ready' : List ℕ) → k < d → Turn n a b label taken cur' ready' (get_or slots k 0 + 1) → Started n a b label taken cur' ready' slots d (k + 1)
-    started_more cur' ready' kd T = record {
+    pub started_more : {cur' ready' : List ℕ} → k < d → Turn n a b label taken cur' ready' (get_or slots k 0 + 1) → Started n a b label taken cur' ready' slots d (k + 1)
+    started_more kd T = record {
       at = get_or slots k 0 + 1;
       few = omega (arith, R.within k kd);
       turn = T;
@@ -150,7 +150,7 @@ module _ (n : ℕ) (a b label taken slots : List ℕ) (d : ℕ) (R : Roll (Marke
 
 -- ---- a circle is taken
 
-module _ (n : ℕ) (a b label after taken cur ready ready₁ : List ℕ) (l : ℕ) (K : Kin n label after) (T : Turn n a b label taken cur ready n) (ll : l < 4096) (P : Pulled ready ready₁ l) where
+module _ {n : ℕ} {a b label after taken cur ready ready₁ : List ℕ} {l : ℕ} (K : Kin n label after) (T : Turn n a b label taken cur ready n) (ll : l < 4096) (P : Pulled ready ready₁ l) where
   rl : In ready l
   rl = P.hit ll
 
@@ -188,7 +188,7 @@ module _ (n : ℕ) (a b label after taken cur ready ready₁ : List ℕ) (l : �
       (λ c. inl (inr (inr (h.0, sym (get_or-set_other taken l (get_or label y 0) 1 0 c) ∙ h.1)))))
       (λ yl. inl (inl (omega (arith, yl))))
 
-  module _ (D : Covered n a b label) (cur' ready' : List ℕ) (M : Moved n a b label (set taken l 1) cur ready₁ cur' ready')
+  module _ (D : Covered n a b label) {cur' ready' : List ℕ} (M : Moved n a b label (set taken l 1) cur ready₁ cur' ready')
       (S : (y w : ℕ) → y < n → get_or label y 0 ≡ l → Arg n a b w y → SureAt n a b label (set taken l 1) cur' w) where
     -- the cursor of k stays at x, an argument of which was settled by this turn
     by_reader : (k x y : ℕ) → k < n → x < n → get_or label x 0 ≡ k → get_or cur' k 0 ≡ x → Free n a b label (set taken l 1) k x → (y < n) × (get_or label y 0 ≡ l) → (get_or a x 0 ≡ y) ⊎ (get_or b x 0 ≡ y) → ⊥

@@ -3,4 +3,4 @@
 
 mod ranks;
 
-pub use ranks::rank_labelled;
+pub use ranks::{Labels, rank_labelled};

@@ -7,7 +7,8 @@ ghost use Rattle.circles.specs.Arrays.{Given, graph_of, Laid};
 mod lent;
 mod sizes;
 
-use crate::sizes::{rank_to_512, rank_to_1024, rank_to_2048, rank_to_4096};
+use crate::sizes::rank_within;
+use circles::Graph;
 
 // The circles of n slots, ranked: the label of each slot, the members circle by circle, where each circle ends, and how many there are.
 // a[x] is 65534 where x is not declared; an argument past the slots is none. The memory that it fills follows n.
@@ -22,14 +23,14 @@ pub fn rank_circles(
     requires { Given n a.now b.now × (n ≤ length label.old) × (n ≤ length members.old) × (n + 1 ≤ length ends.old) }
     ensures { Laid (graph_of n a.now b.now) label.old members.old ends.old label.new members.new ends.new result }
 {
+    let g = Graph { n, a, b };
     if n <= 512 {
-        return rank_to_512(n, a, b, label, members, ends);
+        rank_within::<512, 1024>(g, label, members, ends)
+    } else if n <= 1024 {
+        rank_within::<1024, 2048>(g, label, members, ends)
+    } else if n <= 2048 {
+        rank_within::<2048, 4096>(g, label, members, ends)
+    } else {
+        rank_within::<4096, 8192>(g, label, members, ends)
     }
-    if n <= 1024 {
-        return rank_to_1024(n, a, b, label, members, ends);
-    }
-    if n <= 2048 {
-        return rank_to_2048(n, a, b, label, members, ends);
-    }
-    rank_to_4096(n, a, b, label, members, ends)
 }

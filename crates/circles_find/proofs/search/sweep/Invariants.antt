@@ -7,9 +7,9 @@ use Rattle.circles_find.proofs.search.sweep.Given as goal
 
 abbrev pub invariant-loop-e : goal.invariant-loop-e
 invariant-loop-e l =
-    Looks l.n (Back (Arg l.n l.a l.b) l.v) l.x l.okay l.k l.initial.mark l.initial.queue l.tail l.mark l.queue l.t
-    × Upto (arg_of l.a l.b) (2 * l.n) l.v (Seen l.x l.okay l.k l.mark) l.e
-    × Room l.n l.x l.mark l.queue l.t
+    Looks l.g.n (Back (Arg l.g.n l.g.a.now l.g.b.now) l.v) l.s.x l.s.okay.now l.s.k l.initial.mark l.initial.queue l.tail l.mark l.queue l.t
+    × Upto (arg_of l.g.a.now l.g.b.now) (2 * l.g.n) l.v (Seen l.s.x l.s.okay.now l.s.k l.mark) l.e
+    × Room l.g.n l.s.x l.mark l.queue l.t
 
 abbrev pub decreases-loop-e : goal.decreases-loop-e
-decreases-loop-e l = 2 * l.n - l.e
+decreases-loop-e l = 2 * l.g.n - l.e

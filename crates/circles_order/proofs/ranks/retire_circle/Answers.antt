@@ -1,36 +1,29 @@
 -- What reads one member is touched, and on to the next member. Assumes nothing.
-use Rattle.std.proofs.Common.{◌≡◌, ◌+◌, get_or, arith, sym}
-use mathlib.Core.Path.{subst₂}
-use Rattle.circles_find.specs.Inner.Search.{Next, value_in}
-use Rattle.circles_order.proofs.Cursors.{moved_none, moved_join, walked_start, walked_more}
+use Rattle.std.proofs.Common.{arith}
+use Rattle.circles_order.proofs.Cursors.{member_next, moved_none, moved_join, walked_start, walked_more}
 use Rattle.circles_order.proofs.ranks.retire_circle.Goals as goal
 
 pub loop-y-init : goal.loop-y-init
 loop-y-init c =
-    let g = c.args in
+    let r = c.args.r in
+    let g = r.g in
     let p = c.requires.l_lt_n in
     let k = c.requires.cursors in
-    (moved_none g.n p.2.few g.a.now g.b.now g.label.now g.taken.now g.cur.now g.ready.now k.0 k.1, walked_start g.a.now g.b.now g.taken.now g.cur.now g.l p.0 k.2 p.2)
+    (moved_none p.2.few k.0 k.1, walked_start g.a.now g.b.now r.taken.now c.args.cur.now c.args.l p.0 k.2 p.2)
 
 pub loop-y-smaller : goal.loop-y-smaller
 loop-y-smaller c =
-    let g = c.args in
     let p = c.requires.l_lt_n in
-    let y = c.loop-y.y in
-    let hit : get_or g.label.now y 0 ≡ g.l = c.loop-y.invariant.1.hit c.loop-y-test.true in
-    omega (arith, c.wide-y.ensures, (p.2.next y c.loop-y-test.true (omega (arith, hit, p.0))).from, c.loop-y-test.true)
+    let yl = c.loop-y-test.true in
+    omega (arith, (member_next p.2 p.0 yl (c.loop-y.invariant.1.hit yl) c.from-y.ensures).from)
 
 pub loop-y-preserved : goal.loop-y-preserved
 loop-y-preserved c =
-    let g = c.args in
     let p = c.requires.l_lt_n in
-    let y = c.loop-y.y in
+    let yl = c.loop-y-test.true in
     let i = c.loop-y.invariant in
-    let r = c.retire in
-    let hit : get_or g.label.now y 0 ≡ g.l = i.1.hit c.loop-y-test.true in
-    let next : Next (value_in g.label.now) g.n g.l (y + 1) c.wide-y.result =
-    subst₂ (λ u v. Next (value_in g.label.now) g.n u (y + 1) v) hit (sym c.wide-y.ensures) (p.2.next y c.loop-y-test.true (omega (arith, hit, p.0))) in
-    (moved_join g.n p.2.few g.a.now g.b.now g.label.now g.taken.now i.0 r.ensures.0, walked_more c.wide-y.result p.2 i.1 r.ensures.0 r.ensures.1 next)
+    let r = c.retire.ensures in
+    (moved_join p.2.few i.0 r.0, walked_more c.from-y.result p.2 i.1 r.0 r.1 (member_next p.2 p.0 yl (i.1.hit yl) c.from-y.ensures))
 
 pub returns : goal.returns
 returns c = (c.loop-y.invariant.0, λ y w h₁ h₂. c.loop-y.invariant.1.past y (omega (arith, h₁, c.loop-y-test.false)) h₁ h₂ w)

@@ -1,10 +1,7 @@
--- The first k of the list are looked at. Assumes nothing.
-use Rattle.std.proofs.Common.{◌-◌, ◌≤◌}
+-- So many of the list are looked at. Assumes nothing.
+use Rattle.std.proofs.Common.{length}
 use Rattle.circles_order.proofs.Taking.{Started}
 use Rattle.circles_order.proofs.ranks.start_turns.Given as goal
 
-abbrev pub invariant-loop-k : goal.invariant-loop-k
-invariant-loop-k l = Started l.n l.a l.b l.label l.taken l.cur l.ready l.slots l.listed l.k × (l.k ≤ l.listed)
-
-abbrev pub decreases-loop-k : goal.decreases-loop-k
-decreases-loop-k l = l.listed - l.k
+abbrev pub invariant-loop-l : goal.invariant-loop-l
+invariant-loop-l l = Started l.r.g.n l.r.g.a.now l.r.g.b.now l.r.labels.label.now l.r.taken.now l.cur l.ready l.listed (length l.listed) l.l-index

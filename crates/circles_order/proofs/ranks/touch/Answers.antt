@@ -6,42 +6,39 @@ use Rattle.circles_order.proofs.Cursors.{moved_none, moved_on, moved_past, sure_
 use Rattle.circles_order.proofs.ranks.touch.Goals as goal
 
 -- the circle is its own label's
-own : (n : ℕ) (label after : List ℕ) (w j : ℕ) → Kin n label after → w < n → get_or label w 0 < n → j ≡ get_or label w 0 → get_or label j 0 ≡ j
-own n label after w j K wl h e = subst (λ (u : ℕ). get_or label u 0 ≡ u) (sym e) (K.own w wl h)
+own : {n : ℕ} {label after : List ℕ} {w j : ℕ} → Kin n label after → w < n → get_or label w 0 < n → j ≡ get_or label w 0 → get_or label j 0 ≡ j
+own {label} {w} K wl h e = subst (λ (u : ℕ). get_or label u 0 ≡ u) (sym e) (K.own w wl h)
 
 -- how its cursor moved
-gone : (n : ℕ) (a b label taken cur : List ℕ) (w j d : ℕ) → j ≡ get_or label w 0 → get_or cur j 0 ≡ w → Advanced n a b label taken (get_or label w 0) w d → Advanced n a b label taken j (get_or cur j 0) d
-gone n a b label taken cur w j d e f A = subst (λ (u : ℕ). Advanced n a b label taken u (get_or cur j 0) d) (sym e) (subst (λ (u : ℕ). Advanced n a b label taken (get_or label w 0) u d) (sym f) A)
+gone : {n : ℕ} {a b label taken : List ℕ} (cur : List ℕ) {l w j d : ℕ} → j ≡ l → get_or cur j 0 ≡ w → Advanced n a b label taken l w d → Advanced n a b label taken j (get_or cur j 0) d
+gone {n} {a} {b} {label} {taken} cur {l} {j} {d} e f A = subst (λ (u : ℕ). Advanced n a b label taken u (get_or cur j 0) d) (sym e) (subst (λ (u : ℕ). Advanced n a b label taken l u d) (sym f) A)
 
 pub returns-then-cur-j : goal.returns-then-cur-j
 returns-then-cur-j c =
-    let g = c.args in
-    (moved_none g.n c.requires.kin.0.few g.a.now g.b.now g.label.now g.taken.now g.cur.now g.ready.now c.requires.cursors.0 c.requires.cursors.1, record { at = λ h q. absurd (c.if-cur-j.true (ap (λ (u : ℕ). get_or g.cur.now u 0) c.wide-j.ensures ∙ q)) })
+    let p = c.requires in
+    let e = c.from-j.ensures ∙ ap (λ (u : ℕ). get_or c.args.r.labels.label.now u 0) c.from.ensures in
+    (moved_none p.kin.0.few p.cursors.0 p.cursors.1, record { at = λ h q. absurd (c.if-cur-j.true (ap (λ (u : ℕ). get_or c.args.cur.now u 0) e ∙ q)) })
 
-pub returns-then-wide-n : goal.returns-then-wide-n
-returns-then-wide-n c =
-    let g = c.args in
+pub returns-then-r-from : goal.returns-then-r-from
+returns-then-r-from c =
     let p = c.requires.kin in
-    let j = c.wide-j.result in
-    let d = c.advance-d.result in
-    let small : j < g.n = omega (arith, c.wide-j.ensures, p.4) in
-    let at : get_or g.cur.now j 0 < g.n = omega (arith, p.3, c.if-cur-j.false) in
-    let o = own g.n g.label.now g.after.now g.w j p.0 p.3 p.4 c.wide-j.ensures in
-    let A = gone g.n g.a.now g.b.now g.label.now g.taken.now g.cur.now g.w j d c.wide-j.ensures c.if-cur-j.false c.advance-d.ensures in (
-      moved_on g.n p.0.few g.a.now g.b.now g.label.now g.taken.now g.cur.now j d c.requires.cursors.0 small o at A g.ready.now c.requires.cursors.1 (omega (arith, c.wide.ensures, c.if-wide-n.true)),
-      sure_at g.n p.0.few g.a.now g.b.now g.label.now g.taken.now g.cur.now j d c.requires.cursors.0 small o at A g.w p.3 (sym c.wide-j.ensures),
-    )
+    let C = c.requires.cursors.0 in
+    let j = c.from-j.result in
+    let e = c.from-j.ensures ∙ ap (λ (u : ℕ). get_or c.args.r.labels.label.now u 0) c.from.ensures in
+    let small : j < c.args.r.g.n = omega (arith, e, p.4) in
+    let at : get_or c.args.cur.now j 0 < c.args.r.g.n = omega (arith, p.3, c.if-cur-j.false) in
+    let o = own p.0 p.3 p.4 e in
+    let A = gone c.args.cur.now c.from-j.ensures c.if-cur-j.false c.advance-d.ensures in
+    (moved_past p.0.few C small o at A c.put.ensures (omega arith), sure_at p.0.few C small o at A c.args.w p.3 (sym e))
 
-pub returns : goal.returns
-returns c =
-    let g = c.args in
+pub returns-else-r-from : goal.returns-else-r-from
+returns-else-r-from c =
     let p = c.requires.kin in
-    let j = c.wide-j.result in
-    let d = c.advance-d.result in
-    let small : j < g.n = omega (arith, c.wide-j.ensures, p.4) in
-    let at : get_or g.cur.now j 0 < g.n = omega (arith, p.3, c.if-cur-j.false) in
-    let o = own g.n g.label.now g.after.now g.w j p.0 p.3 p.4 c.wide-j.ensures in
-    let A = gone g.n g.a.now g.b.now g.label.now g.taken.now g.cur.now g.w j d c.wide-j.ensures c.if-cur-j.false c.advance-d.ensures in (
-      moved_past g.n p.0.few g.a.now g.b.now g.label.now g.taken.now g.cur.now j d c.requires.cursors.0 small o at A g.ready.now c.put.new.ready c.put.ensures (omega (arith, c.wide.ensures, c.if-wide-n.false)),
-      sure_at g.n p.0.few g.a.now g.b.now g.label.now g.taken.now g.cur.now j d c.requires.cursors.0 small o at A g.w p.3 (sym c.wide-j.ensures),
-    )
+    let C = c.requires.cursors.0 in
+    let j = c.from-j.result in
+    let e = c.from-j.ensures ∙ ap (λ (u : ℕ). get_or c.args.r.labels.label.now u 0) c.from.ensures in
+    let small : j < c.args.r.g.n = omega (arith, e, p.4) in
+    let at : get_or c.args.cur.now j 0 < c.args.r.g.n = omega (arith, p.3, c.if-cur-j.false) in
+    let o = own p.0 p.3 p.4 e in
+    let A = gone c.args.cur.now c.from-j.ensures c.if-cur-j.false c.advance-d.ensures in
+    (moved_on p.0.few C small o at A c.requires.cursors.1 (omega arith), sure_at p.0.few C small o at A c.args.w p.3 (sym e))

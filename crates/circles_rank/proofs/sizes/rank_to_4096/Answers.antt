@@ -1,7 +1,0 @@
--- `rank_to_4096` meets its contract: its memory is new. Assumes nothing.
-use Rattle.std.proofs.Common.{arith}
-use Rattle.circles_rank.proofs.Fresh.{spare_new}
-use Rattle.circles_rank.proofs.sizes.rank_to_4096.Goals as goal
-
-pub rank_lent-requires-clause-spare : goal.rank_lent-requires-clause-spare
-rank_lent-requires-clause-spare c = spare_new c.args.n 4096 8192 c.requires.0.few (omega arith)
