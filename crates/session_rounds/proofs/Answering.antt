@@ -8,11 +8,10 @@ use lib.Seq.{sets}
 use Rattle.text_line.specs.Text.{byte, two, three, four}
 use Rattle.text_line.proofs.Fields.{line_length}
 use Rattle.text_frame.specs.Out.{round_text, done_text}
-use Rattle.refusal.specs.declared.Refusal.{Refusal}
 use Rattle.update.specs.declared.Answer.{Answer}
-use Rattle.update.specs.declared.Answer.TheVariants.{Round, Done, Refused}
+use Rattle.update.specs.declared.Answer.TheVariants.{Round, Done}
 use Rattle.update.specs.Steps.{Outcome, round, done}
-use Rattle.update.specs.Calls.{answer_says}
+use Rattle.update.specs.Calls.{Said, refused, answer_says}
 use Rattle.session.specs.Session.{outcome_text}
 use Rattle.session_rounds.specs.Telling.{Printable, AnswerPut}
 
@@ -25,8 +24,9 @@ module _ {a : Answer} (p : Printable (answer_says a)) where
   pub done_fits : {x y z : ℕ} → a ≡ Done x y z → (x < 2 ^ 16) × (y < 2 ^ 32) × (z < 2 ^ 16)
   done_fits e = subst (λ (b : Answer). Printable (answer_says b)) e p
 
-  pub not_refused : {q : Refusal} → a ≡ Refused q → ⊥
-  not_refused e = subst (λ (b : Answer). Printable (answer_says b)) e p
+-- and a refusal has no line
+pub not_refused : {o : Said Outcome} {n : ℕ} → Printable o → o ≡ refused n → ⊥
+not_refused p e = subst (λ (o : Said Outcome). Printable o) e p
 
 -- ---- a line has 19 bytes
 
