@@ -1,10 +1,11 @@
 -- A step's answer and its line. Assumes nothing.
-use mathlib.Core.Path.{◌≡◌, ap, ◌∙◌, subst}
-use mathlib.Core.Bool.{Bool, cond}
+use mathlib.Core.Path.{◌≡◌, refl, ap, ◌∙◌, subst}
+use mathlib.Core.Bool.{Bool, true, false, cond}
 use mathlib.Core.List.{List, [], ◌∷◌}
 use Prim.Native.Nat.{ℕ, ◌+◌, ◌<◌, ◌^◌}
 use lib.ListN.{length}
 use lib.Seq.{sets}
+use Rattle.std.specs.Int.{from_bool}
 use Rattle.text_line.specs.Text.{byte, two, three, four}
 use Rattle.text_line.proofs.Fields.{line_length}
 use Rattle.text_frame.specs.Out.{round_text, done_text}
@@ -27,6 +28,12 @@ module _ {a : Answer} (p : Printable (answer_says a)) where
 -- and a refusal has no line
 pub not_refused : {o : Said Outcome} {n : ℕ} → Printable o → o ≡ refused n → ⊥
 not_refused p e = subst (λ (o : Said Outcome). Printable o) e p
+
+-- ---- a flag's byte
+
+pub byte_of : (t : Bool) → from_bool t ≡ cond t 1 0
+byte_of true = refl
+byte_of false = refl
 
 -- ---- a line has 19 bytes
 
