@@ -78,7 +78,7 @@ module _ (t owns : List ℕ) (n : ℕ) (a b left rule label members ends : List 
       let h₁ = subst (λ (k : ℕ). ArraysHold t (take k held) owns n a b left rule label members ends count) (sym e) h in
       let o₁ = o ∙ ap (λ (k : ℕ). take k held_owns) (sym e) in
       step_carried t (lent held held_owns s olds) r g n a b left rule label members ends count
-      (subst (λ (l : List ℕ). ArraysHold t (take r.nodes held) l n a b left rule label members ends count) o₁ h₁) answer d s'
+      (subst (λ (l : List ℕ). ArraysHold t (take r.nodes held) l n a b left rule label members ends count) o₁ h₁) (record { answer = answer; «record» = d }) s'
       (subst (λ (l : List ℕ). StepSays (step_of (wired n t l a b left rule) (circles_in n a b) r olds s) answer d s') o₁ u)
 
   module _ (still place : ℕ) (r : Record) (s out : List ℕ) (v : TurnsSoFar still place r s out) where
