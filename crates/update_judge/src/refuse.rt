@@ -55,7 +55,12 @@ pub fn judge_ground(
 }
 
 // What a load is refused by behind that: 10, 8, 6/7.
-pub fn judge_load(table: &[u64; 2657], record: Record, productions: &[u8], owns: &[u64]) -> Result<(), Refusal>
+pub fn judge_load(
+    table: &[u64; 2657],
+    record: Record,
+    productions: &[u8],
+    owns: &[u64],
+) -> Result<(), Refusal>
     requires { judge_table table.now ≡ 0 }
     ensures { verdict_of result ≡ refusal_by (new_order table.now «record» productions.now owns.now) }
 {
@@ -72,7 +77,12 @@ pub fn judge_load(table: &[u64; 2657], record: Record, productions: &[u8], owns:
 }
 
 // 16, and the held tree's 6/7.
-pub fn judge_holding(table: &[u64; 2657], record: Record, held: &[u8], held_owns: &[u64]) -> Result<(), Refusal>
+pub fn judge_holding(
+    table: &[u64; 2657],
+    record: Record,
+    held: &[u8],
+    held_owns: &[u64],
+) -> Result<(), Refusal>
     requires table_value { judge_table table.now ≡ 0 }
     requires record_in_bounds { («record».nodes ≤ length held.now) × («record».nodes ≤ length held_owns.now) }
     ensures { verdict_of result ≡ refusal_by (held_order table.now held.now held_owns.now «record») }
@@ -119,7 +129,12 @@ pub fn judge_aim(
 }
 
 // 16, the held tree's 6/7, 17.
-fn judge_going(table: &[u64; 2657], record: Record, held: &[u8], held_owns: &[u64]) -> Result<(), Refusal>
+fn judge_going(
+    table: &[u64; 2657],
+    record: Record,
+    held: &[u8],
+    held_owns: &[u64],
+) -> Result<(), Refusal>
     requires table_value { judge_table table.now ≡ 0 }
     requires record_in_bounds { («record».nodes ≤ length held.now) × («record».nodes ≤ length held_owns.now) }
     ensures { verdict_of result ≡ refusal_by (going_order table.now held.now held_owns.now «record») }
