@@ -15,22 +15,14 @@ use tree::{Places, judge_held, judge_nodes};
 use update::{Record, is_open};
 
 // 15: whether one of the four buffers is too short.
+#[tactic(auto, unfolding(update::specs::Refusals::short))]
 fn is_short(held: &[u8], held_owns: &[u64], sets: &[u64], earlier: &[u64]) -> bool
     ensures { result ≡ short (lent held.now held_owns.now sets.now earlier.now) }
 {
-    if held.len() < Record::NODES {
-        return true;
-    }
-    if held_owns.len() < Record::NODES {
-        return true;
-    }
-    if sets.len() < Record::SETS {
-        return true;
-    }
-    if earlier.len() < Record::SETS {
-        return true;
-    }
-    false
+    held.len() < Record::NODES
+        || held_owns.len() < Record::NODES
+        || sets.len() < Record::SETS
+        || earlier.len() < Record::SETS
 }
 
 // What every call is refused by first: 15, 1 to 5, 11.
