@@ -15,25 +15,18 @@ use tree::{Places, judge_held, judge_nodes};
 use update::{Record, is_open};
 
 // 15: whether one of the four buffers is too short.
+#[tactic(auto, unfolding(update::specs::Refusals::short))]
 fn is_short(held: &[u8], held_owns: &[u64], sets: &[u64], earlier: &[u64]) -> bool
     ensures { result ≡ short (lent held.now held_owns.now sets.now earlier.now) }
 {
-    if held.len() < Record::NODES {
-        return true;
-    }
-    if held_owns.len() < Record::NODES {
-        return true;
-    }
-    if sets.len() < Record::SETS {
-        return true;
-    }
-    if earlier.len() < Record::SETS {
-        return true;
-    }
-    false
+    held.len() < Record::NODES
+        || held_owns.len() < Record::NODES
+        || sets.len() < Record::SETS
+        || earlier.len() < Record::SETS
 }
 
 // What every call is refused by first: 15, 1 to 5, 11.
+#[tactic(auto, using(refusal::proofs::Distinct::handed_number, table::proofs::Steps::or_stops), unfolding(refusal::specs::Orders::refusal_by))]
 pub fn judge_ground(
     table: &[u64; 2657],
     record: Record,
@@ -55,7 +48,13 @@ pub fn judge_ground(
 }
 
 // What a load is refused by behind that: 10, 8, 6/7.
-pub fn judge_load(table: &[u64; 2657], record: Record, productions: &[u8], owns: &[u64]) -> Result<(), Refusal>
+#[tactic(auto, using(table::proofs::Limits::limits, crate::proofs::Orders::load_size, crate::proofs::Orders::load_unequal, crate::proofs::Orders::load_judged), unfolding(refusal::specs::Orders::refusal_by))]
+pub fn judge_load(
+    table: &[u64; 2657],
+    record: Record,
+    productions: &[u8],
+    owns: &[u64],
+) -> Result<(), Refusal>
     requires { judge_table table.now ≡ 0 }
     ensures { verdict_of result ≡ refusal_by (new_order table.now «record» productions.now owns.now) }
 {
@@ -72,7 +71,13 @@ pub fn judge_load(table: &[u64; 2657], record: Record, productions: &[u8], owns:
 }
 
 // 16, and the held tree's 6/7.
-pub fn judge_holding(table: &[u64; 2657], record: Record, held: &[u8], held_owns: &[u64]) -> Result<(), Refusal>
+#[tactic(auto, using(crate::proofs::Orders::held_absent, crate::proofs::Orders::held_last))]
+pub fn judge_holding(
+    table: &[u64; 2657],
+    record: Record,
+    held: &[u8],
+    held_owns: &[u64],
+) -> Result<(), Refusal>
     requires table_value { judge_table table.now ≡ 0 }
     requires record_in_bounds { («record».nodes ≤ length held.now) × («record».nodes ≤ length held_owns.now) }
     ensures { verdict_of result ≡ refusal_by (held_order table.now held.now held_owns.now «record») }
@@ -84,6 +89,7 @@ pub fn judge_holding(table: &[u64; 2657], record: Record, held: &[u8], held_owns
 }
 
 // What a look at the held tree is refused by: what every call is first, then 10, 16, the tree's 6/7.
+#[tactic(auto, using(refusal::proofs::Distinct::handed_number, crate::proofs::Orders::ground_table, crate::proofs::Orders::ground_nodes, crate::proofs::Orders::look_busy, crate::proofs::Orders::look_held, crate::proofs::Orders::look_stopped))]
 pub fn judge_look(
     table: &[u64; 2657],
     record: Record,
@@ -102,6 +108,7 @@ pub fn judge_look(
 }
 
 // What a replacement is refused by before its points are looked at: 15, 1 to 5, 11, 10, 22, 16, the held tree's 6/7.
+#[tactic(auto, using(refusal::proofs::Distinct::handed_number, crate::proofs::Orders::ground_table, crate::proofs::Orders::ground_nodes, crate::proofs::Rows::aim_ground, crate::proofs::Rows::aim_asked, crate::proofs::Rows::aim_held))]
 pub fn judge_aim(
     table: &[u64; 2657],
     record: Record,
@@ -119,7 +126,13 @@ pub fn judge_aim(
 }
 
 // 16, the held tree's 6/7, 17.
-fn judge_going(table: &[u64; 2657], record: Record, held: &[u8], held_owns: &[u64]) -> Result<(), Refusal>
+#[tactic(auto, using(refusal::proofs::Distinct::handed_number, refusal::proofs::Orders::stopped, crate::proofs::Orders::going_on, crate::proofs::Orders::going_idle, crate::proofs::Orders::going_stopped))]
+fn judge_going(
+    table: &[u64; 2657],
+    record: Record,
+    held: &[u8],
+    held_owns: &[u64],
+) -> Result<(), Refusal>
     requires table_value { judge_table table.now ≡ 0 }
     requires record_in_bounds { («record».nodes ≤ length held.now) × («record».nodes ≤ length held_owns.now) }
     ensures { verdict_of result ≡ refusal_by (going_order table.now held.now held_owns.now «record») }
@@ -132,6 +145,7 @@ fn judge_going(table: &[u64; 2657], record: Record, held: &[u8], held_owns: &[u6
 }
 
 // What a step and a run are refused by: what every call is first, then 16, the tree's 6/7, 17.
+#[tactic(auto, using(refusal::proofs::Distinct::handed_number, crate::proofs::Orders::ground_table, crate::proofs::Orders::ground_nodes, crate::proofs::Orders::step_going, crate::proofs::Orders::step_ground))]
 pub fn judge_step(
     table: &[u64; 2657],
     record: Record,
