@@ -146,9 +146,7 @@ pub fn run_record<'a>(
     ensures { RanLeaves table.now held.now held_owns.now sets.old earlier.now «record» budget result sets.new }
 {
     judge_step(table, record, held, held_owns, sets, earlier)?;
-    Ok(run_going(
-        table, record, held, held_owns, sets, earlier, budget,
-    ))
+    Ok(run_going(table, record, held, held_owns, sets, earlier, budget))
 }
 
 // The same run over a record that the caller lends, which is changed in place.
