@@ -25,10 +25,14 @@ fn some_of<T>(all: &[T], from: usize, to: usize) -> &[T] {
 // The points of a row. It has room for eight, so one that says nine has no ninth to show.
 fn places_of(row: Row) -> Places {
     let mut points = [Point { node: 0, count: 0 }; Record::POINTS];
-    points[0].node = row.first;
-    points[0].count = 1;
-    points[1].node = row.second;
-    points[1].count = 1;
+    points[0] = Point {
+        node: row.first,
+        count: 1,
+    };
+    points[1] = Point {
+        node: row.second,
+        count: 1,
+    };
     Places {
         count: row.count,
         points,
