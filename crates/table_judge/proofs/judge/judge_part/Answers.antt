@@ -5,4 +5,4 @@ use Rattle.table.proofs.Holds.{holds, shaped_of}
 use Rattle.table_judge.proofs.judge.judge_part.Goals as goal
 
 pub judge_equations-requires-clause-shaped : goal.judge_equations-requires-clause-shaped
-judge_equations-requires-clause-shaped c = shaped_of c.args.table.now c.args.p c.requires.symbols (holds c.args.table.now (production c.args.p) (sym c.in-Sound.ensures))
+judge_equations-requires-clause-shaped c = shaped_of c.args.table.now c.args.p c.requires.symbols (holds c.args.table.now (production c.args.p) (sym c.in_ok-judge_production.ensures))
