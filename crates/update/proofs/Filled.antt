@@ -7,7 +7,7 @@ use native.Mathlib.Omega.{arith}
 use lib.ListN.{length, get_or, take, drop, replicate, length-append, length-replicate, length-drop, get_or-append, get_or-eq_default}
 use lib.Seq.{length-take-le, take_at, get_or-append-add}
 use Rattle.tree.specs.Replace.{exchanged}
-use Rattle.update.specs.Memories.{filled}
+use Rattle.update.specs.Memories.{filled_with, filled}
 
 -- ---- zeros behind
 
@@ -33,9 +33,16 @@ unfolding filled
 length_filled xs l h = omega (arith, length-append xs (replicate (length l - length xs) 0), length-replicate {A = ℕ} (length l - length xs) 0)
 
 -- the front of a filled buffer
+pub take_filled_with : {A : Type 0} (z : A) (xs l : List A) (n : ℕ) → length xs ≡ n → take n (filled_with z xs l) ≡ xs
+take_filled_with z xs l n e = take_at xs (replicate (length l - length xs) z) n e
+
 pub take_filled : (xs l : List ℕ) (n : ℕ) → length xs ≡ n → take n (filled xs l) ≡ xs
 unfolding filled
-take_filled xs l n e = take_at xs (replicate (length l - length xs) 0) n e
+take_filled xs l n e = take_filled_with 0 xs l n e
+
+-- a buffer is filled by its length alone
+pub filled_with_as : {A : Type 0} (z : A) (xs l l' : List A) → length l ≡ length l' → filled_with z xs l ≡ filled_with z xs l'
+filled_with_as z xs l l' e = ap (λ (n : ℕ). xs ++ replicate (n - length xs) z) e
 
 -- and what lies behind
 pub behind_filled : (xs l : List ℕ) (i : ℕ) → length xs ≤ i → get_or (filled xs l) i 0 ≡ 0

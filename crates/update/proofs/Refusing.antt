@@ -26,7 +26,7 @@ use Rattle.update.specs.Records.{nodes_most, is_open_kind, beyond}
 use Rattle.update.specs.Memories.{Memory, nodes_of, owns_of}
 use Rattle.update.specs.Refusals.{short, held_refusal, ground_order, busy_check, held_order, waiver_order, new_order, load_order, load_refusal, look_order, replaced_nodes, nodes_then, part_order, replace_order, replace_refusal, miscounted, missing, Present, Separate, nodes_left, part_refusal, parts_order, parts_refusal, asked_order, aim_order, point_check, row_order, points_order, points_refusal, going_order, step_order, step_refusal, read_order, read_refusal, dump_order, dump_refusal}
 use Rattle.update.specs.Refused.{AllGivenExactly, Leaves, ReadLeaves, AllLeave}
-use Rattle.update.specs.Calls.{refused, said, unless, is_open, load_call, replace_call, points_call, step_call, run_call, unless_read, read_call}
+use Rattle.update.specs.Calls.{said, unless, is_open, load_call, replace_call, points_call, step_call, run_call, unless_read, read_call}
 use Rattle.update.proofs.Within.{short_means, beyond_means}
 use Rattle.update.proofs.Ready.{tree_sound}
 use Rattle.update.proofs.Asking.{counted_means, miscounted_means, missing_means, present_means, overlap_means, apart_means, tests_row}

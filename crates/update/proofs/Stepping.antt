@@ -26,7 +26,7 @@ use Rattle.climb.proofs.Finishing.{all_limits}
 use Rattle.climb.proofs.Storing.{length_stores, in_memory}
 use Rattle.update.specs.declared.Record.{Record}
 use Rattle.update.specs.Records.{shut, working}
-use Rattle.update.specs.Steps.{sown_of, survives, changed_of, round_number, from_of, to_of, closed_of, round_record, round, done, Made, round_made, done_made, due_from, step_of}
+use Rattle.update.specs.Steps.{sown_of, survives, changed_of, round_number, from_of, to_of, closed_of, round_record, done, Made, round_made, done_made, due_from, step_of}
 use Rattle.update.specs.Course.{Begins, Phase, between, climbing, StandsAfter, NextRound, record_at}
 
 -- ---- the last round of a climb is the one that closes it

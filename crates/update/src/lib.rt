@@ -8,7 +8,7 @@ use circles::SLOTS;
 use tree::Point;
 
 // Which update is open: none, a load, a replacement.
-#[derive(Clone, Copy)]
+#[derive(Clone, Copy, PartialEq, Eq)]
 pub enum Open {
     Nothing,
     Load,
@@ -49,6 +49,7 @@ impl Record {
     pub const EVALUATIONS: u64 = 1_073_745_920;
 
     // A record with no tree and no update.
+    #[tactic(auto, unfolding(crate::specs::Records::shut, crate::specs::Records::empty_record))]
     pub fn empty() -> Self
         ensures { EmptySays result }
     {
@@ -70,11 +71,7 @@ impl Record {
 pub fn is_open(open: Open) -> bool
     ensures { result ≡ is_open_kind «open» }
 {
-    match open {
-        Open::Nothing => false,
-        Open::Load => true,
-        Open::Replacement => true,
-    }
+    open != Open::Nothing
 }
 
 // What a step answers where nothing refuses it: the round that it made, by its circle's least instance, or the numbers at done.

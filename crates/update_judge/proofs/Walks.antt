@@ -7,8 +7,10 @@ use Prim.Native.Nat.{ℕ, zero, suc, ◌+◌, ◌-◌, ◌*◌, ◌≤◌, ◌<�
 use native.Mathlib.Omega.{arith}
 use native.Mathlib.Decide.{ℕ_discrete}
 use lib.Dec.{ltb, leb}
-use lib.ListN.{length, get_or, set, take, drop, length-set}
-use lib.Seq.{get_or-set_same, get_or-set_other, drop-drop}
+use lib.ListN.{length, get_or, set, take, drop, length-set, drop_of_length-le}
+use lib.Seq.{get_or-set_same, get_or-set_other, drop-drop, drop-cons}
+use Rattle.std.specs.List.{list_any}
+use Rattle.std.proofs.lemmas.List.{drop_more}
 use borrow.Author.Tests.{lt-ltb, le-ltb}
 use Rattle.refusal.specs.Orders.{or_else}
 use Rattle.table.specs.Words.{left_of}
@@ -64,61 +66,34 @@ none_at f n l e i h =
 pub cuts_start : (n : ℕ) (l : List Cut) → cuts_from 0 n l ≡ cuts_from 0 (n - 0) l
 cuts_start n l = let e : n ≡ n - 0 = omega arith in ap (λ (k : ℕ). cuts_from 0 k l) e
 
+-- as many as there are, they are the front of the array
+places_taken : (i n : ℕ) (l : List Point) → i + n ≤ length l → places_from i n l ≡ take n (drop i l)
+unfolding places_from
+places_taken i zero l h = refl
+places_taken i (suc n) l h =
+    let e : drop i l ≡ point_at l i ∷ drop (suc i) l = drop-cons l i (record { node = 0; count = 0 }) (omega arith) in
+    ap (λ (qs : List Point). point_at l i ∷ qs) (places_taken (suc i) n l (omega arith)) ∙ ap (take (suc n)) (sym e)
+
+pub places_front : (n : ℕ) (l : List Point) → n ≤ length l → places_from 0 n l ≡ take n l
+places_front n l h = places_taken 0 n l (omega arith)
+
 -- ---- whether some point is so
 
-module _ (f : Point → Bool) (n : ℕ) (l : List Point) where
-  pub record Passed (i : ℕ) : Type 0 where
-    pub rest : some_point f (places_from 0 n l) ≡ some_point f (places_from i (n - i) l)
+pub some_any : (f : Point → Bool) (l : List Point) → some_point f l ≡ list_any f l
+some_any f [] = refl
+some_any f (q ∷ qs) = ap (λ (b : Bool). f q || b) (some_any f qs)
 
-  pub passed_start : Passed 0
-  passed_start = record { rest = ap (some_point f) (places_start n l) }
+-- ---- whether the points of a record are astray, i of them passed
 
-  step : (i : ℕ) → i < n → some_point f (places_from i (n - i) l) ≡ (f (point_at l i) || some_point f (places_from (i + 1) (n - (i + 1)) l))
-  step i h = ap (some_point f) (places_step n i l h)
+pub astray_at : (nodes : ℕ) (l : List Point) («from» i : ℕ) → i < length l
+    → astray nodes «from» (drop i l)
+    ≡ (ltb (point_at l i).node «from» || leb nodes (point_at l i).node || ltb nodes ((point_at l i).node + (point_at l i).count) || astray nodes ((point_at l i).node + max 1 (point_at l i).count) (drop (i + 1) l))
+unfolding astray
+astray_at nodes l «from» i h = ap (astray nodes «from») (drop_more l i (record { node = 0; count = 0 }) h)
 
-  pub passed_next : (i : ℕ) → Passed i → i < n → f (point_at l i) ≡ false → Passed (i + 1)
-  passed_next i w h e = record { rest = w.rest ∙ step i h ∙ ap (λ (b : Bool). b || some_point f (places_from (i + 1) (n - (i + 1)) l)) e }
-
-  pub passed_found : (i : ℕ) → Passed i → i < n → f (point_at l i) ≡ true → true ≡ some_point f (places_from 0 n l)
-  passed_found i w h e = sym (w.rest ∙ step i h ∙ ap (λ (b : Bool). b || some_point f (places_from (i + 1) (n - (i + 1)) l)) e)
-
-  pub passed_all : (i : ℕ) → Passed i → n ≤ i → false ≡ some_point f (places_from 0 n l)
-  passed_all i w h = sym (w.rest ∙ ap (some_point f) (places_end n i l h))
-
--- ---- whether the points of a record are astray
-
-module _ (nodes n : ℕ) (l : List Point) where
-  pub record Rising (from i : ℕ) : Type 0 where
-    pub few : n ≤ 8
-    pub each : (j : ℕ) → j < 8 → ((point_at l j).node ≤ 512) × ((point_at l j).count ≤ 512)
-    pub rest : astray nodes 0 (places_from 0 n l) ≡ astray nodes from (places_from i (n - i) l)
-
-  abbrev outside : ℕ → ℕ → Bool
-  outside from i = ltb (point_at l i).node from || leb nodes (point_at l i).node || ltb nodes ((point_at l i).node + (point_at l i).count)
-
-  stray : (from i : ℕ) → i < n
-      → astray nodes from (places_from i (n - i) l) ≡ (outside from i || astray nodes ((point_at l i).node + max 1 (point_at l i).count) (places_from (i + 1) (n - (i + 1)) l))
-  unfolding astray
-  stray from i h = ap (astray nodes from) (places_step n i l h)
-
-  pub rising_start : n ≤ 8 → ((j : ℕ) → j < 8 → ((point_at l j).node ≤ 512) × ((point_at l j).count ≤ 512)) → Rising 0 0
-  rising_start a b = record { few = a; each = b; rest = ap (astray nodes 0) (places_start n l) }
-
-  pub rising_next : (from i next : ℕ) → Rising from i → i < n → outside from i ≡ false → next ≡ (point_at l i).node + max 1 (point_at l i).count → Rising next (i + 1)
-  rising_next from i next w h e d = record {
-    few = w.few;
-    each = w.each;
-    rest = w.rest ∙ stray from i h ∙ ap (λ (b : Bool). b || astray nodes ((point_at l i).node + max 1 (point_at l i).count) (places_from (i + 1) (n - (i + 1)) l)) e
-        ∙ ap (λ (k : ℕ). astray nodes k (places_from (i + 1) (n - (i + 1)) l)) (sym d);
-  }
-
-  pub rising_found : (from i : ℕ) → Rising from i → i < n → outside from i ≡ true → true ≡ astray nodes 0 (places_from 0 n l)
-  rising_found from i w h e =
-      sym (w.rest ∙ stray from i h ∙ ap (λ (b : Bool). b || astray nodes ((point_at l i).node + max 1 (point_at l i).count) (places_from (i + 1) (n - (i + 1)) l)) e)
-
-  pub rising_all : (from i : ℕ) → Rising from i → n ≤ i → false ≡ astray nodes 0 (places_from 0 n l)
-  unfolding astray
-  rising_all from i w h = sym (w.rest ∙ ap (astray nodes from) (places_end n i l h))
+pub astray_end : (nodes : ℕ) (l : List Point) («from» i : ℕ) → length l ≤ i → astray nodes «from» (drop i l) ≡ false
+unfolding astray
+astray_end nodes l «from» i h = ap (astray nodes «from») (drop_of_length-le l h)
 
 -- ---- whether two cuts meet
 

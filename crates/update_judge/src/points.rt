@@ -182,7 +182,13 @@ fn is_passing(nodes: usize, cuts: Cuts) -> bool
 }
 
 // The part of one cut, which begins at `at`: its root is to have the symbol of the node that it replaces.
-fn judge_cut(table: &[u64; 2657], tree: &[u8], cut: Cut, new: &[u8], at: usize) -> Result<(), Refusal>
+fn judge_cut(
+    table: &[u64; 2657],
+    tree: &[u8],
+    cut: Cut,
+    new: &[u8],
+    at: usize,
+) -> Result<(), Refusal>
     requires limits { Limits table.now }
     requires numbered { Numbered table.now tree.now }
     requires node_in_bounds { (cut.node < length tree.now) × (at + cut.count ≤ length new.now) }

@@ -15,22 +15,14 @@ use tree::{Places, judge_held, judge_nodes};
 use update::{Record, is_open};
 
 // 15: whether one of the four buffers is too short.
+#[tactic(auto, unfolding(update::specs::Refusals::short))]
 fn is_short(held: &[u8], held_owns: &[u64], sets: &[u64], earlier: &[u64]) -> bool
     ensures { result ≡ short (lent held.now held_owns.now sets.now earlier.now) }
 {
-    if held.len() < Record::NODES {
-        return true;
-    }
-    if held_owns.len() < Record::NODES {
-        return true;
-    }
-    if sets.len() < Record::SETS {
-        return true;
-    }
-    if earlier.len() < Record::SETS {
-        return true;
-    }
-    false
+    held.len() < Record::NODES
+        || held_owns.len() < Record::NODES
+        || sets.len() < Record::SETS
+        || earlier.len() < Record::SETS
 }
 
 // What every call is refused by first: 15, 1 to 5, 11.
@@ -55,7 +47,12 @@ pub fn judge_ground(
 }
 
 // What a load is refused by behind that: 10, 8, 6/7.
-pub fn judge_load(table: &[u64; 2657], record: Record, productions: &[u8], owns: &[u64]) -> Result<(), Refusal>
+pub fn judge_load(
+    table: &[u64; 2657],
+    record: Record,
+    productions: &[u8],
+    owns: &[u64],
+) -> Result<(), Refusal>
     requires { judge_table table.now ≡ 0 }
     ensures { verdict_of result ≡ refusal_by (new_order table.now «record» productions.now owns.now) }
 {
@@ -72,7 +69,12 @@ pub fn judge_load(table: &[u64; 2657], record: Record, productions: &[u8], owns:
 }
 
 // 16, and the held tree's 6/7.
-pub fn judge_holding(table: &[u64; 2657], record: Record, held: &[u8], held_owns: &[u64]) -> Result<(), Refusal>
+pub fn judge_holding(
+    table: &[u64; 2657],
+    record: Record,
+    held: &[u8],
+    held_owns: &[u64],
+) -> Result<(), Refusal>
     requires table_value { judge_table table.now ≡ 0 }
     requires record_in_bounds { («record».nodes ≤ length held.now) × («record».nodes ≤ length held_owns.now) }
     ensures { verdict_of result ≡ refusal_by (held_order table.now held.now held_owns.now «record») }
@@ -119,7 +121,12 @@ pub fn judge_aim(
 }
 
 // 16, the held tree's 6/7, 17.
-fn judge_going(table: &[u64; 2657], record: Record, held: &[u8], held_owns: &[u64]) -> Result<(), Refusal>
+fn judge_going(
+    table: &[u64; 2657],
+    record: Record,
+    held: &[u8],
+    held_owns: &[u64],
+) -> Result<(), Refusal>
     requires table_value { judge_table table.now ≡ 0 }
     requires record_in_bounds { («record».nodes ≤ length held.now) × («record».nodes ≤ length held_owns.now) }
     ensures { verdict_of result ≡ refusal_by (going_order table.now held.now held_owns.now «record») }

@@ -4,36 +4,30 @@ ghost use Rattle.update_place.specs.Inner.Pieces.{spliced_by, Fitting};
 ghost use Rattle.wire.specs.Inner.Turns.{Held};
 ghost use Rattle.wire.specs.Waivers.{waives};
 
-use tree::Cuts;
-use update_place::copying::copy_nodes;
-use update_place::placing::splice_nodes;
+use tree::{Cuts, NODES};
+use update_place::placing::splice;
 use wire_plan::{has_nine, waives_wired};
 
 // Whether a sound tree has an operation 9 in one circle with its b: the test for 21.
+#[tactic(auto, using(crate::proofs::Written::without_nine, crate::proofs::Written::held_productions))]
 pub fn waives_tree(table: &[u64; 2657], tree: &[u8]) -> bool
     requires { Held table.now tree.now }
     ensures { result ≡ waives table.now tree.now }
 {
-    if has_nine(table) {
-        let count = tree.len();
-        let mut nodes = [0u8; 512];
-        copy_nodes(&mut nodes, 0, tree, 0, count);
-        return waives_wired(table, &nodes[..count]);
-    }
-    false
+    has_nine(table) && waives_wired(table, tree)
 }
 
 // The same of the tree as a replacement would leave it. Nothing lent may change before all is accepted, so its nodes are written to memory of their own.
+#[tactic(auto, using(crate::proofs::Written::without_nine, crate::proofs::Written::held_productions))]
 pub fn waives_then(table: &[u64; 2657], tree: &[u8], cuts: Cuts, new: &[u8]) -> bool
     requires fitting { Fitting cuts (length tree.now) (length new.now) }
     requires held { Held table.now (spliced_by cuts new.now tree.now) }
     ensures { result ≡ waives table.now (spliced_by cuts new.now tree.now) }
 {
-    if has_nine(table) {
-        let nodes = tree.len();
-        let mut after = [0u8; 512];
-        let count = splice_nodes(tree, nodes, cuts, new, &mut after);
-        return waives_wired(table, &after[..count]);
+    if !has_nine(table) {
+        return false;
     }
-    false
+    let mut after = [0u8; NODES];
+    let count = splice(tree, tree.len(), cuts, new, 0, &mut after);
+    waives_wired(table, &after[..count])
 }

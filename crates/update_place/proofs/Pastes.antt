@@ -1,11 +1,11 @@
 -- Parts of a list that are written over: `paste` element by element, and the turn of each loop. Assumes nothing.
-use mathlib.Core.Path.{◌≡◌, refl, ap, sym, ◌∙◌}
+use mathlib.Core.Path.{◌≡◌, ap, sym, ◌∙◌}
 use mathlib.Core.List.{List, ◌++◌}
 use Prim.Native.Nat.{ℕ, ◌+◌, ◌-◌, ◌≤◌, ◌<◌}
 use native.Mathlib.Omega.{arith}
-use native.Mathlib.Numerals.{add-one}
-use lib.ListN.{length, get_or, set, take, drop, length-set, get_or-append}
-use lib.Seq.{paste, paste-zero, paste-suc, length_paste_head, length-take-le, get_or-take, get_or-drop, get_or-append-add}
+use lib.ListN.{length, get_or, set, take, drop, replicate, get_or-append}
+use lib.Seq.{paste, length_paste_head, length-take-le, get_or-take, get_or-drop, get_or-append-add}
+use Rattle.std.proofs.lemmas.List.Edits.{fill_from_more}
 
 module _ {A : Type 0} (d : List A) (at : ℕ) (s : List A) (n : ℕ) (z : A) (hd : at ≤ length d) (hs : n ≤ length s) where
   head_long : length (take at d ++ take n s) ≡ at + n
@@ -33,27 +33,9 @@ module _ {A : Type 0} (d : List A) (at : ℕ) (s : List A) (n : ℕ) (z : A) (hd
       ∙ get_or-drop (at + n) d (x - (at + n)) z
       ∙ ap (λ (k : ℕ). get_or d k z) f
 
--- ---- a loop that goes up from `at`: after i turns the first i of s stand there
+-- ---- a loop that writes y over a slice: after i turns the first i are y
 
-pub record Pasting (d : List ℕ) (at : ℕ) (s : List ℕ) (count i : ℕ) (b : List ℕ) : Type 0 where
-  pub within : i ≤ count
-  pub long : length b ≡ length d
-  pub are : b ≡ paste d at s i
-
-pub pasting : (d : List ℕ) (at : ℕ) (s : List ℕ) (count : ℕ) → Pasting d at s count 0 d
-pasting d at s count = record { within = omega arith; long = refl; are = paste-zero d at s }
-
-module _ (d : List ℕ) (at : ℕ) (s : List ℕ) (count i : ℕ) (b : List ℕ) (hd : at + count ≤ length d) (hs : count ≤ length s) (w : Pasting d at s count i b) where
-  pub pasting_next : (v : ℕ) → v ≡ get_or s i 0 → i < count → Pasting d at s count (i + 1) (set b (at + i) v)
-  pasting_next v e h = record {
-    within = omega arith;
-    long = length-set b (at + i) v ∙ w.long;
-    are =
-        ap (λ l. set l (at + i) v) w.are
-        ∙ ap (set (paste d at s i) (at + i)) e
-        ∙ paste-suc d at s i 0 (omega arith) (omega arith)
-        ∙ ap (paste d at s) (sym (add-one i));
-  }
-
-  pub pasted : count ≤ i → b ≡ paste d at s count
-  pasted h = let e : i ≡ count = omega arith in w.are ∙ ap (paste d at s) e
+pub one_more : {A : Type 0} (d l : List A) (i : ℕ) (y : A) → l ≡ paste d 0 (replicate i y) i → i < length d → set l i y ≡ paste d 0 (replicate (i + 1) y) (i + 1)
+one_more d l i y e h =
+    let z : 0 + i ≡ i = omega arith in
+    ap (λ s. set s i y) e ∙ ap (λ k. set (paste d 0 (replicate i y) i) k y) (sym z) ∙ fill_from_more d 0 i y (omega arith)

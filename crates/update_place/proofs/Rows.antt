@@ -12,13 +12,13 @@ use Rattle.tree.specs.declared.Places.{Places}
 use Rattle.tree.specs.declared.Cuts.{Cuts}
 use Rattle.tree.specs.Points.{Part, nodes_row}
 use Rattle.tree.specs.Handed.{named_points, cut_row}
-use Rattle.update.specs.Memories.{lent, Memory, nodes_of, owns_of, filled, arranged_row, replaced_row}
+use Rattle.update.specs.Memories.{lent, Memory, nodes_of, owns_of, filled_with, filled, arranged_row, replaced_row}
 use Rattle.update.proofs.Openings.{values}
 use Rattle.tree.specs.Numbered.{Numbered}
 use Rattle.update_place.specs.Inner.Cleared.{cleared}
 use Rattle.update_place.specs.Inner.Pieces.{spliced_by, carried_by, Fitting, Apart}
 use Rattle.update_place.specs.Inner.Splicing.{Splicing}
-use Rattle.update_place.proofs.Placed.{take_filled}
+use Rattle.update_place.proofs.Placed.{take_filled, take_filled_with}
 use Rattle.tree.proofs.Numbered.{judged_numbered}
 use Rattle.update_place.proofs.Spliced.{splicing_fits, splicing_owns_fit, splicing_apart, splicing_nodes, splicing_owns, splicing_law}
 use Rattle.update_place.proofs.Arranged.{carried_count, arrange}
@@ -32,7 +32,7 @@ pub record Lending (t : List ℕ) (m : Memory) (n : ℕ) (points : Places) (cs :
   pub sets : 4096 ≤ length m.sets
   pub earlier : 4096 ≤ length m.earlier
 
-module _ (t : List ℕ) (m : Memory) (n : ℕ) (points : Places) (cs : Cuts) (new new_owns : List ℕ) (l : Lending t m n points cs new new_owns) where
+module _ {t : List ℕ} {m : Memory} {n : ℕ} {points : Places} {cs : Cuts} {new new_owns : List ℕ} (l : Lending t m n points cs new new_owns) where
   abbrev ps : List Part
   ps = cut_row (named_points points) new new_owns
 
@@ -68,12 +68,12 @@ module _ (t : List ℕ) (m : Memory) (n : ℕ) (points : Places) (cs : Cuts) (ne
   table_limits = limits t l.splicing.table
 
   -- the new tree, read back from its buffer
-  module _ (b : List ℕ) (k : ℕ) (eb : b ≡ filled (spliced_by cs new (nodes_of m n)) m.productions) (ek : k ≡ length (spliced_by cs new (nodes_of m n))) where
+  module _ (b : List ℕ) (k : ℕ) (eb : b ≡ filled_with 0 (spliced_by cs new (nodes_of m n)) m.productions) (ek : k ≡ length (spliced_by cs new (nodes_of m n))) where
     pub count_is : k ≡ length after
     count_is = ek ∙ ap length (splicing_nodes l.splicing)
 
     pub tree_back : take k b ≡ after
-    tree_back = ap (take k) eb ∙ take_filled (spliced_by cs new (nodes_of m n)) m.productions k (sym ek) ∙ splicing_nodes l.splicing
+    tree_back = ap (take k) eb ∙ take_filled_with 0 (spliced_by cs new (nodes_of m n)) m.productions k (sym ek) ∙ splicing_nodes l.splicing
 
     pub tree_numbered : Numbered t (take k b)
     tree_numbered = rw tree_back (judged_numbered t after (0 ∷ []) (splicing_law l.splicing).sound)
@@ -90,8 +90,8 @@ module _ (t : List ℕ) (m : Memory) (n : ℕ) (points : Places) (cs : Cuts) (ne
           ap (take (8 * k)) arranged_is
           ∙ take_filled (values t (nodes_of m n) ps m.sets) m.earlier (8 * k) (map_long (arranged_row t (nodes_of m n) ps m.sets) 0 (8 * length after) ∙ ap (λ j. 8 * j) (sym count_is))
 
-      pub row_placed : (o v : List ℕ) → o ≡ filled (spliced_by cs new_owns (owns_of m n)) m.owns → v ≡ filled (take (8 * k) w) m.sets → lent b o v w ≡ replaced_row t m n ps
-      unfolding replaced_row
+      pub row_placed : (o v : List ℕ) → o ≡ filled_with 0 (spliced_by cs new_owns (owns_of m n)) m.owns → v ≡ filled_with 0 (take (8 * k) w) m.sets → lent b o v w ≡ replaced_row t m n ps
+      unfolding replaced_row filled
       row_placed o v eo ev =
           let p = eb ∙ ap (λ (x : List ℕ). filled x m.productions) (splicing_nodes l.splicing) in
           let q = eo ∙ ap (λ (x : List ℕ). filled x m.owns) (splicing_owns l.splicing) in

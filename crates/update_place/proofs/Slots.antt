@@ -12,7 +12,9 @@ use lib.ListN.{length, get_or, replicate, length-replicate}
 use lib.Seq.{ext_get_or, paste, length-paste}
 use Rattle.circles.specs.Ranked.{up_from}
 use Rattle.circles.proofs.Lists.{map_at, map_long}
-use Rattle.table.specs.Words.{synthesized, inherited, left_of, has_set}
+use Rattle.table.specs.Words.{symbol_count, synthesized, inherited, left_of, has_set}
+use Rattle.table.specs.Limits.{Limits}
+use Rattle.tree.specs.Numbered.{Numbered}
 use Rattle.wire.specs.Instances.{node_of, index_of, declared}
 use Rattle.update_place.specs.Inner.Cleared.{among, cleared_at, cleared}
 use Rattle.update_place.proofs.Pastes.{paste_before, paste_inside, paste_behind}
@@ -182,3 +184,18 @@ module _ (t ns : List ℕ) (at : ℕ) (l : List ℕ) (a b : ℕ) (ha : a ≤ 4) 
       by_slots (emptied l at a b) (cleared_at t ns at (at + 1) l) (length l)
       (zeros_long (paste l (8 * at + a) (replicate (4 - a) 0) (4 - a)) (8 * at + 4 + b) (4 - b) 0 (omega (arith, first_long)) ∙ first_long)
       (λ x h. any_slot x)
+
+-- ---- a node of a judged table
+
+-- its production and its symbol, and how many sets the symbol declares each way
+pub record Node (t : List ℕ) (p : ℕ) : Type 0 where
+  pub production : p < 64
+  pub symbol : left_of t p < 32
+  pub synthesized : synthesized t (left_of t p) ≤ 4
+  pub inherited : inherited t (left_of t p) ≤ 4
+
+pub node_of_table : (t ns : List ℕ) (i : ℕ) → Limits t → Numbered t ns → i < length ns → Node t (get_or ns i 0)
+node_of_table t ns i l n h =
+    let p = n.below i h in
+    let s : left_of t (get_or ns i 0) < symbol_count t = l.small (get_or ns i 0) 0 p (omega arith) in
+    record { production = omega (arith, l.productions); symbol = omega (arith, l.symbols); synthesized = l.synthesized (left_of t (get_or ns i 0)) s; inherited = l.inherited (left_of t (get_or ns i 0)) s }

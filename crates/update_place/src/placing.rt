@@ -3,7 +3,7 @@ ghost use Rattle.std.specs.Prelude.{◌≡◌, ◌+◌, ◌*◌, ◌<◌, ◌≤
 ghost use Rattle.table.specs.Limits.{Limits};
 ghost use Rattle.tree.specs.Points.{nodes_row};
 ghost use Rattle.tree.specs.Handed.{named_points, cut_row};
-ghost use Rattle.update.specs.Memories.{lent, filled, replaced_row};
+ghost use Rattle.update.specs.Memories.{lent, filled_with, filled, replaced_row};
 ghost use Rattle.tree.specs.Numbered.{Numbered};
 ghost use Rattle.update_place.specs.Inner.Cleared.{cleared};
 ghost use Rattle.update_place.specs.Inner.Splicing.{Splicing};
@@ -11,41 +11,23 @@ ghost use Rattle.update_place.specs.Inner.Pieces.{spliced_by, carried_by, Fittin
 ghost use Rattle.circles.specs.Marks.{slots_most};
 ghost use Rattle.tree.specs.Tree.{nodes_most};
 
-use crate::copying::{clear_nodes, clear_sets, copy_nodes, copy_sets};
+use crate::copying::{clear, copy, write};
 use table::{SETS_EACH, inherited_of, left_of, synthesized_of};
-use tree::{Cuts, Places, index};
+use tree::{Cuts, NODES, Places};
 
-// The nodes of `new`, and zeros behind them.
-fn fill_nodes(held: &mut [u8], new: &[u8])
+// `new`, be it nodes or sets, and zeros behind.
+fn fill<T: Copy>(held: &mut [T], zero: T, new: &[T])
     requires { length new.now ≤ length held.old }
-    ensures { held.new ≡ filled new.now held.old }
+    ensures { held.new ≡ filled_with zero new.now held.old }
 {
     let count = new.len();
-    copy_nodes(held, 0, new, 0, count);
+    write(held, 0, new);
     let behind = held.len() - count;
-    clear_nodes(held, count, behind);
-}
-
-// The sets of `new`, and zeros behind them.
-fn fill_sets(sets: &mut [u64], new: &[u64])
-    requires { length new.now ≤ length sets.old }
-    ensures { sets.new ≡ filled new.now sets.old }
-{
-    let count = new.len();
-    copy_sets(sets, 0, new, 0, count);
-    let behind = sets.len() - count;
-    clear_sets(sets, count, behind);
-}
-
-// Empties every set of a buffer.
-fn empty_sets(sets: &mut [u64])
-    ensures { sets.new ≡ replicate (length sets.old) 0 }
-{
-    let count = sets.len();
-    clear_sets(sets, 0, count);
+    clear(held, zero, count, behind);
 }
 
 // A load's tree is placed, and every set is empty: the four fields of `loaded`.
+#[tactic(auto, unfolding(update::specs::Memories::filled))]
 pub fn place_tree(
     productions: &[u8],
     owns: &[u64],
@@ -62,78 +44,45 @@ pub fn place_tree(
     ensures sets_after { sets.new ≡ replicate (length sets.old) 0 }
     ensures earlier_after { earlier.new ≡ replicate (length earlier.old) 0 }
 {
-    fill_nodes(held, productions);
-    fill_sets(held_owns, owns);
-    empty_sets(sets);
-    empty_sets(earlier);
+    fill(held, 0, productions);
+    fill(held_owns, 0, owns);
+    sets.fill(0);
+    earlier.fill(0);
 }
 
-// The nodes of the tree as it would be, front to back: what stays up to the next point, then its part; zeros behind. Gives their count.
+// The nodes of the tree as it would be, or their own sets, front to back: what stays up to the next point, then its part; zeros behind. Gives their count.
 // A tree on the way from one point to the next might not fit, so no part is placed in `held` itself.
-pub fn splice_nodes(held: &[u8], nodes: usize, cuts: Cuts, new: &[u8], out: &mut [u8]) -> usize
+#[tactic(auto, using(crate::proofs::Laying::turn_at, crate::proofs::Laying::tail_at))]
+pub fn splice<T: Copy>(
+    held: &[T],
+    nodes: usize,
+    cuts: Cuts,
+    new: &[T],
+    zero: T,
+    out: &mut [T],
+) -> usize
     requires nodes_in_bounds { nodes ≤ length held.now }
     requires fitting { Fitting cuts nodes (length new.now) }
     requires row_in_bounds { length (spliced_by cuts new.now (take nodes held.now)) ≤ length out.old }
     ensures value { result ≡ length (spliced_by cuts new.now (take nodes held.now)) }
-    ensures out_after { out.new ≡ filled (spliced_by cuts new.now (take nodes held.now)) out.old }
+    ensures out_after { out.new ≡ filled_with zero (spliced_by cuts new.now (take nodes held.now)) out.old }
 {
-    let count = cuts.count;
-    let places = cuts.cuts;
     let mut at = 0;
     let mut from = 0;
     let mut to = 0;
-    let mut i = 0;
-    while i < count {
-        let c = places[i];
+    for c in &cuts.cuts[..cuts.count] {
         let stays = c.node - at;
-        let came = c.count;
-        let next = c.node + c.old;
-        copy_nodes(out, to, held, at, stays);
-        copy_nodes(out, to + stays, new, from, came);
-        at = next;
-        from += came;
-        to = to + stays + came;
-        i += 1;
+        copy(out, to, held, at, stays);
+        copy(out, to + stays, new, from, c.count);
+        at = c.node + c.old;
+        from += c.count;
+        to += stays + c.count;
     }
     let stays = nodes - at;
-    copy_nodes(out, to, held, at, stays);
+    copy(out, to, held, at, stays);
     let end = to + stays;
     let behind = out.len() - end;
-    clear_nodes(out, end, behind);
-    end
-}
-
-// The same of own sets.
-fn splice_sets(sets: &[u64], nodes: usize, cuts: Cuts, new: &[u64], out: &mut [u64]) -> usize
-    requires nodes_in_bounds { nodes ≤ length sets.now }
-    requires fitting { Fitting cuts nodes (length new.now) }
-    requires row_in_bounds { length (spliced_by cuts new.now (take nodes sets.now)) ≤ length out.old }
-    ensures value { result ≡ length (spliced_by cuts new.now (take nodes sets.now)) }
-    ensures out_after { out.new ≡ filled (spliced_by cuts new.now (take nodes sets.now)) out.old }
-{
-    let count = cuts.count;
-    let places = cuts.cuts;
-    let mut at = 0;
-    let mut from = 0;
-    let mut to = 0;
-    let mut i = 0;
-    while i < count {
-        let c = places[i];
-        let stays = c.node - at;
-        let came = c.count;
-        let next = c.node + c.old;
-        copy_sets(out, to, sets, at, stays);
-        copy_sets(out, to + stays, new, from, came);
-        at = next;
-        from += came;
-        to = to + stays + came;
-        i += 1;
-    }
-    let stays = nodes - at;
-    copy_sets(out, to, sets, at, stays);
-    let end = to + stays;
-    let behind = out.len() - end;
-    clear_sets(out, end, behind);
+    clear(out, zero, end, behind);
     end
 }
 
@@ -144,30 +93,25 @@ fn carry_sets(sets: &[u64], nodes: usize, cuts: Cuts, out: &mut [u64])
     requires row_in_bounds { length (carried_by cuts (take (8 * nodes) sets.now)) ≤ length out.old }
     ensures { out.new ≡ filled (carried_by cuts (take (8 * nodes) sets.now)) out.old }
 {
-    let count = cuts.count;
-    let places = cuts.cuts;
     let mut at = 0;
     let mut to = 0;
-    let mut i = 0;
-    while i < count {
-        let c = places[i];
+    for c in &cuts.cuts[..cuts.count] {
         let stays = 8 * (c.node + 1 - at);
         let fresh = 8 * (c.count - 1);
-        let next = c.node + c.old;
-        copy_sets(out, to, sets, 8 * at, stays);
-        clear_sets(out, to + stays, fresh);
-        at = next;
-        to = to + stays + fresh;
-        i += 1;
+        copy(out, to, sets, 8 * at, stays);
+        clear(out, 0, to + stays, fresh);
+        at = c.node + c.old;
+        to += stays + fresh;
     }
     let stays = 8 * (nodes - at);
-    copy_sets(out, to, sets, 8 * at, stays);
+    copy(out, to, sets, 8 * at, stays);
     let end = to + stays;
     let behind = out.len() - end;
-    clear_sets(out, end, behind);
+    clear(out, 0, end, behind);
 }
 
 // Empties the undeclared slots of one node: its synthesized sets stand from 0 on, its inherited ones from 4 on.
+#[tactic(auto, using(crate::proofs::Slots::node_of_table))]
 fn clear_node(table: &[u64; 2657], nodes: &[u8], at: usize, sets: &mut [u64])
     requires limits { Limits table.now }
     requires numbered { Numbered table.now nodes.now }
@@ -175,52 +119,40 @@ fn clear_node(table: &[u64; 2657], nodes: &[u8], at: usize, sets: &mut [u64])
     requires nodes_in_bounds { 8 * length nodes.now ≤ length sets.old }
     ensures { sets.new ≡ cleared table.now nodes.now at (at + 1) sets.old }
 {
-    let symbol = left_of(table, index(nodes[at]));
+    let symbol = left_of(table, usize::from(nodes[at]));
     let a = synthesized_of(table, symbol);
     let b = inherited_of(table, symbol);
     let first = 8 * at;
-    clear_sets(sets, first + a, SETS_EACH - a);
-    clear_sets(sets, first + SETS_EACH + b, SETS_EACH - b);
+    clear(sets, 0, first + a, SETS_EACH - a);
+    clear(sets, 0, first + SETS_EACH + b, SETS_EACH - b);
 }
 
 // Empties the undeclared slots of every node.
+#[tactic(auto, using(crate::proofs::Slots::cleared_none, crate::proofs::Slots::cleared_next))]
 fn clear_undeclared(table: &[u64; 2657], nodes: &[u8], sets: &mut [u64])
     requires limits { Limits table.now }
     requires numbered { Numbered table.now nodes.now }
     requires nodes_in_bounds { 8 * length nodes.now ≤ length sets.old }
     ensures { sets.new ≡ cleared table.now nodes.now 0 (length nodes.now) sets.old }
 {
-    let mut at = 0;
-    while at < nodes.len() {
+    for at in 0..nodes.len() {
         clear_node(table, nodes, at, sets);
-        at += 1;
     }
 }
 
-// The nodes of the tree as it will be, in the held tree's place. Gives their count.
-fn place_nodes(nodes: usize, cuts: Cuts, new: &[u8], held: &mut [u8]) -> usize
+// The nodes of the tree as it will be, or their own sets, in the place of what is held. Gives their count.
+fn place<T: Copy>(nodes: usize, cuts: Cuts, new: &[T], zero: T, held: &mut [T]) -> usize
     requires nodes_le_nodes_most { (nodes ≤ nodes_most) × (nodes_most ≤ length held.old) }
     requires fitting { Fitting cuts nodes (length new.now) }
     requires row_bound { length (spliced_by cuts new.now (take nodes held.old)) ≤ nodes_most }
     ensures value { result ≡ length (spliced_by cuts new.now (take nodes held.old)) }
-    ensures held_after { held.new ≡ filled (spliced_by cuts new.now (take nodes held.old)) held.old }
+    ensures few { result ≤ nodes_most }
+    ensures held_after { held.new ≡ filled_with zero (spliced_by cuts new.now (take nodes held.old)) held.old }
 {
-    let mut tree = [0u8; 512];
-    let count = splice_nodes(&*held, nodes, cuts, new, &mut tree);
-    fill_nodes(held, &tree[..count]);
+    let mut tree = [zero; NODES];
+    let count = splice(held, nodes, cuts, new, zero, &mut tree);
+    fill(held, zero, &tree[..count]);
     count
-}
-
-// The same of own sets.
-fn place_owns(nodes: usize, cuts: Cuts, new: &[u64], owns: &mut [u64])
-    requires nodes_le_nodes_most { (nodes ≤ nodes_most) × (nodes_most ≤ length owns.old) }
-    requires fitting { Fitting cuts nodes (length new.now) }
-    requires row_bound { length (spliced_by cuts new.now (take nodes owns.old)) ≤ nodes_most }
-    ensures { owns.new ≡ filled (spliced_by cuts new.now (take nodes owns.old)) owns.old }
-{
-    let mut spliced = [0u64; 512];
-    let count = splice_sets(&*owns, nodes, cuts, new, &mut spliced);
-    fill_sets(owns, &spliced[..count]);
 }
 
 // The attribute sets of the new tree: `nodes` is the count of the tree as it was.
@@ -263,10 +195,9 @@ pub fn place_row(
     ensures value { result ≡ length (nodes_row table.now (take nodes held.old) (cut_row (named_points points) new.now new_owns.now)) }
     ensures lent_after { lent held.new held_owns.new sets.new earlier.new ≡ replaced_row table.now (lent held.old held_owns.old sets.old earlier.old) nodes (cut_row (named_points points) new.now new_owns.now) }
 {
-    let count = place_nodes(nodes, cuts, new, held);
-    place_owns(nodes, cuts, new_owns, held_owns);
-    arrange_sets(table, &held[..count], nodes, cuts, &*sets, earlier);
-    let slots = 8 * count;
-    fill_sets(sets, &earlier[..slots]);
+    let count = place(nodes, cuts, new, 0, held);
+    place(nodes, cuts, new_owns, 0, held_owns);
+    arrange_sets(table, &held[..count], nodes, cuts, sets, earlier);
+    fill(sets, 0, &earlier[..8 * count]);
     count
 }

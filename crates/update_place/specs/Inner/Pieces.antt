@@ -5,13 +5,13 @@ use Rattle.tree.specs.declared.Cuts.{Cuts}
 use Rattle.tree.specs.Handed.{cut_at}
 
 -- the `old` elements from `from` on make way for those of `fresh`
-pub record Piece : Type 0 where
+pub record Piece (A : Type 0) : Type 0 where
   pub from : ℕ
   pub old : ℕ
-  pub fresh : List ℕ
+  pub fresh : List A
 
 -- from place `at` of l on: what stays up to the next piece, then what comes there
-unfoldable pub spliced : List Piece → List ℕ → ℕ → List ℕ
+unfoldable pub spliced : {A : Type 0} → List (Piece A) → List A → ℕ → List A
 spliced [] l at = drop at l
 spliced (p ∷ ps) l at = take (p.from - at) (drop at l) ++ (p.fresh ++ spliced ps l (p.from + p.old))
 
@@ -24,17 +24,17 @@ abbrev pub named_cuts : Cuts → List Cut
 named_cuts cs = cuts_from 0 cs.count cs.cuts
 
 -- 9.10: of nodes or own sets: what came is one list, part after part
-unfoldable pub pieces : List Cut → List ℕ → List Piece
+unfoldable pub pieces : {A : Type 0} → List Cut → List A → List (Piece A)
 pieces [] new = []
 pieces (c ∷ cs) new = record { from = c.node; old = c.old; fresh = take c.count new } ∷ pieces cs (drop c.count new)
 
 -- 9.6: of attribute sets, eight to a node: a point keeps its own, and the rest of its part starts empty
-unfoldable pub gaps : List Cut → List Piece
+unfoldable pub gaps : List Cut → List (Piece ℕ)
 gaps [] = []
 gaps (c ∷ cs) = record { from = 8 * (c.node + 1); old = 8 * (c.old - 1); fresh = replicate (8 * (c.count - 1)) 0 } ∷ gaps cs
 
 -- 9.4: the nodes or own sets l afterwards
-abbrev pub spliced_by : Cuts → List ℕ → List ℕ → List ℕ
+abbrev pub spliced_by : {A : Type 0} → Cuts → List A → List A → List A
 spliced_by cs new l = spliced (pieces (named_cuts cs) new) l 0
 
 -- 9.6: and the attribute sets
