@@ -1,125 +1,94 @@
 // A tape's calls, each with its line.
-use crate::lending::run_lent;
+use crate::WORDS;
+use crate::lending::{DUST, Lent, run_lent};
 use crate::mark::tell_memory;
 use crate::reading::{read, read_day};
 use crate::tape::{ALL, Call, Change, Look, Row, Work, call_of};
-use crate::tell::{say, tell_begun, tell_ran, tell_stepped};
+use crate::tell::{tell_begun, tell_ran, tell_stepped};
 use engine::{Places, Point, Record};
 use std::io::Stdout;
 
-// What lies in lent memory at first.
-const DUST: u64 = 0xa5a5_a5a5_a5a5_a5a5;
-
-// Some of the nodes; all of them where there aren't as many.
-fn nodes_of<'a>(nodes: &'a [u8], from: usize, to: usize) -> &'a [u8] {
-    if nodes.len() < to {
-        return nodes;
-    }
-    if to < from {
-        return nodes;
-    }
-    &nodes[from..to]
+// A day: its nodes and own sets with what stands behind them, how many are the tree's, and the leaf that is replaced.
+#[derive(Clone, Copy)]
+pub struct Day<'a> {
+    pub nodes: &'a [u8],
+    pub owns: &'a [u64],
+    pub count: usize,
+    pub point: usize,
 }
 
-// Some of the own sets; all of them where there aren't as many.
-fn owns_of<'a>(owns: &'a [u64], from: usize, to: usize) -> &'a [u64] {
-    if owns.len() < to {
-        return owns;
-    }
-    if to < from {
-        return owns;
-    }
-    &owns[from..to]
+// Some of a day's nodes or own sets; all of them where there aren't as many.
+fn some_of<T>(all: &[T], from: usize, to: usize) -> &[T] {
+    all.get(from..to).unwrap_or(all)
 }
 
 // The points of a row. It has room for eight, so one that says nine has no ninth to show.
-fn places_of(count: usize, first: usize, second: usize) -> Places {
-    let none = Point { node: 0, count: 0 };
-    let mut points = [none; 8];
+fn places_of(row: Row) -> Places {
+    let mut points = [Point { node: 0, count: 0 }; Record::POINTS];
     points[0] = Point {
-        node: first,
+        node: row.first,
         count: 1,
     };
     points[1] = Point {
-        node: second,
+        node: row.second,
         count: 1,
     };
     Places {
-        count: count,
-        points: points,
+        count: row.count,
+        points,
     }
-}
-
-// A replacement at several points, and the record that it leaves.
-fn replace_points(
-    output: Stdout,
-    table: &[u64; 2657],
-    r: Record,
-    row: Row,
-    nodes: &[u8],
-    owns: &[u64],
-    held: &mut [u8; 512],
-    held_owns: &mut [u64; 512],
-    sets: &mut [u64; 4096],
-    earlier: &mut [u64; 4096],
-) -> Record {
-    let points = places_of(row.count, row.first, row.second);
-    let new = nodes_of(nodes, row.from, row.to);
-    let own = owns_of(owns, row.own, ALL);
-    let d = engine::replace_points(table, r, points, new, own, held, held_owns, sets, earlier);
-    tell_begun(output, b"replace_points: ", r, d)
 }
 
 // A load or a replacement, and the record that it leaves.
 fn change(
     output: Stdout,
-    table: &[u64; 2657],
+    table: &[u64; WORDS],
     r: Record,
     change: Change,
-    nodes: &[u8],
-    owns: &[u64],
-    held: &mut [u8; 512],
-    held_owns: &mut [u64; 512],
-    sets: &mut [u64; 4096],
-    earlier: &mut [u64; 4096],
+    day: Day,
+    lent: &mut Lent,
 ) -> Record {
+    let Day { nodes, owns, .. } = day;
+    let held = &mut lent.held;
+    let held_owns = &mut lent.held_owns;
+    let sets = &mut lent.sets;
+    let earlier = &mut lent.earlier;
     match change {
         Change::Load(from, to, upto) => {
-            let tree = nodes_of(nodes, from, to);
-            let own = owns_of(owns, from, upto);
+            let tree = some_of(nodes, from, to);
+            let own = some_of(owns, from, upto);
             let d = engine::load(table, r, tree, own, held, held_owns, sets, earlier);
-            tell_begun(output, b"load: ", r, d)
+            tell_begun(output, "load", r, d)
         }
         Change::Short => {
             let mut few = [DUST; 4095];
             let d = engine::load(table, r, nodes, owns, held, held_owns, &mut few, earlier);
-            tell_begun(output, b"load: ", r, d)
+            tell_begun(output, "load", r, d)
         }
         Change::Replace(point, from, to, own) => {
-            let part = nodes_of(nodes, from, to);
-            let own = owns_of(owns, own, ALL);
+            let part = some_of(nodes, from, to);
+            let own = some_of(owns, own, ALL);
             let d = engine::replace(table, r, point, part, own, held, held_owns, sets, earlier);
-            tell_begun(output, b"replace: ", r, d)
+            tell_begun(output, "replace", r, d)
         }
         Change::ReplacePoints(row) => {
-            replace_points(
-                output, table, r, row, nodes, owns, held, held_owns, sets, earlier,
-            )
+            let points = places_of(row);
+            let new = some_of(nodes, row.from, row.to);
+            let own = some_of(owns, row.own, ALL);
+            let d = engine::replace_points(
+                table, r, points, new, own, held, held_owns, sets, earlier,
+            );
+            tell_begun(output, "replace_points", r, d)
         }
     }
 }
 
 // A step or a run, and the record that it leaves.
-fn work<'a>(
-    output: Stdout,
-    table: &'a [u64; 2657],
-    r: Record,
-    work: Work,
-    held: &'a [u8; 512],
-    held_owns: &'a [u64; 512],
-    sets: &mut [u64; 4096],
-    earlier: &'a [u64; 4096],
-) -> Record {
+fn work(output: Stdout, table: &[u64; WORDS], r: Record, work: Work, lent: &mut Lent) -> Record {
+    let held = &lent.held;
+    let held_owns = &lent.held_owns;
+    let sets = &mut lent.sets;
+    let earlier = &lent.earlier;
     match work {
         Work::Step => {
             let d = engine::step(table, r, held, held_owns, sets, earlier);
@@ -127,84 +96,51 @@ fn work<'a>(
         }
         Work::Run(budget) => {
             let (answer, next) = run_lent(table, r, held, held_owns, sets, earlier, budget);
-            tell_ran(output, b"run ", budget, answer, next)
+            tell_ran(output, "run", budget, answer, next)
         }
         Work::RunRecord(budget) => {
-            match engine::run_record(table, r, held, held_owns, sets, earlier, budget) {
-                Ok(d) => tell_ran(output, b"run_record ", budget, Ok(d.answer), d.record),
-                Err(e) => tell_ran(output, b"run_record ", budget, Err(e), r),
-            }
+            let d = engine::run_record(table, r, held, held_owns, sets, earlier, budget);
+            let (answer, next) = match d {
+                Ok(d) => (Ok(d.answer), d.record),
+                Err(refusal) => (Err(refusal), r),
+            };
+            tell_ran(output, "run_record", budget, answer, next)
         }
     }
 }
 
 // A record with a node more than its limit.
 fn beyond() -> Record {
-    let mut r = Record::empty();
-    r.nodes = 513;
-    r
+    Record {
+        nodes: Record::NODES + 1,
+        ..Record::empty()
+    }
 }
 
 // A look, and the record to go on with.
-fn look(
-    output: Stdout,
-    table: &[u64; 2657],
-    r: Record,
-    look: Look,
-    held: &[u8; 512],
-    held_owns: &[u64; 512],
-    sets: &[u64; 4096],
-    earlier: &[u64; 4096],
-) -> Record {
+fn look(output: Stdout, table: &[u64; WORDS], r: Record, look: Look, lent: &Lent) -> Record {
     match look {
-        Look::Read(instance) => read(output, table, r, held, held_owns, sets, earlier, instance),
-        Look::Day => read_day(output, table, r, held, held_owns, sets, earlier),
-        Look::Memory => tell_memory(output, held, held_owns, sets, earlier),
+        Look::Read(instance) => read(output, table, r, lent, instance),
+        Look::Day => read_day(output, table, r, lent),
+        Look::Memory => tell_memory(output, lent),
         Look::Empty => return Record::empty(),
         Look::Beyond => return beyond(),
-        Look::Line => say(output, b"\n"),
+        Look::Line => {
+            let _ = println!(output);
+        }
     }
     r
 }
 
-// The calls of a tape on a day of so many nodes, one after the other over one record and one set of memory.
-pub fn perform(
-    output: Stdout,
-    table: [u64; 2657],
-    tape: &[u8],
-    nodes: &[u8],
-    owns: &[u64],
-    count: usize,
-    point: usize,
-) {
-    let mut held = [0xa5u8; 512];
-    let mut held_owns = [DUST; 512];
-    let mut sets = [DUST; 4096];
-    let mut earlier = [DUST; 4096];
+// The calls of a tape on a day, one after the other over one record and one set of memory.
+pub fn perform(output: Stdout, table: &[u64; WORDS], tape: &[u8], day: Day) {
+    let mut lent = Lent::dusty();
     let mut r = Record::empty();
-    for i in 0..tape.len() {
-        let call = call_of(tape[i], count, point);
-        match call {
-            Call::Change(c) => {
-                r = change(
-                    output,
-                    &table,
-                    r,
-                    c,
-                    nodes,
-                    owns,
-                    &mut held,
-                    &mut held_owns,
-                    &mut sets,
-                    &mut earlier,
-                );
-            }
-            Call::Work(w) => {
-                r = work(output, &table, r, w, &held, &held_owns, &mut sets, &earlier);
-            }
-            Call::Look(l) => {
-                r = look(output, &table, r, l, &held, &held_owns, &sets, &earlier);
-            }
-        }
+    for letter in tape {
+        r = match call_of(*letter, day.count, day.point) {
+            Call::Change(c) => change(output, table, r, c, day, &mut lent),
+            Call::Work(w) => work(output, table, r, w, &mut lent),
+            Call::Look(l) => look(output, table, r, l, &lent),
+        };
     }
 }

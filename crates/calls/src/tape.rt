@@ -1,6 +1,4 @@
 // The calls of a day as a tape, a letter each.
-use std::num::wrapping_sub_usize;
-
 // A row of so many points, of which the first two are named and take one node each: the nodes from one place to another, with the own sets from a third on.
 #[derive(Clone, Copy)]
 pub struct Row {
@@ -65,18 +63,18 @@ const PAIR: usize = 511;
 // A row of so many points by a day's nodes from a place to the end, which are two unless one is to be missing.
 fn row_by(count: usize, first: usize, second: usize, from: usize, nodes: usize) -> Change {
     Change::ReplacePoints(Row {
-        count: count,
-        first: first,
-        second: second,
-        from: from,
+        count,
+        first,
+        second,
+        from,
         to: nodes,
         own: PAIR,
     })
 }
 
 fn row_of(letter: u8, nodes: usize, point: usize) -> Change {
-    let last = wrapping_sub_usize(nodes, 1);
-    let two = wrapping_sub_usize(nodes, 2);
+    let last = nodes.wrapping_sub(1);
+    let two = nodes.wrapping_sub(2);
     match letter {
         b'2' => row_by(2, point, point, two, nodes),
         b'j' => row_by(2, last, point, two, nodes),
@@ -89,7 +87,7 @@ fn row_of(letter: u8, nodes: usize, point: usize) -> Change {
 }
 
 fn change_of(letter: u8, nodes: usize, point: usize) -> Change {
-    let last = wrapping_sub_usize(nodes, 1);
+    let last = nodes.wrapping_sub(1);
     match letter {
         b'l' => Change::Load(0, nodes, nodes),
         b'f' => Change::Load(0, nodes, last),

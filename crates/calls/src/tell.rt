@@ -1,129 +1,72 @@
-// What a call answers, and the record that it leaves, as a line.
-use engine::{Answer, Open, Point, Record, Run, Stepped};
+// What a call answers, and the record that it leaves, as a line. What can't be printed is left out.
+use engine::{Answer, Open, Record, Run, Stepped};
 use refusal::{Refusal, number};
 use std::io::Stdout;
-
-pub fn wide(x: u8) -> u64 {
-    x as u64
-}
-
-fn bit(x: bool) -> u64 {
-    if x { 1 } else { 0 }
-}
-
-// What can't be printed is left out.
-pub fn say(output: Stdout, text: &[u8]) {
-    let _ = output.write_all(text);
-}
-
-pub fn say_count(output: Stdout, text: &[u8], n: u64) {
-    say(output, text);
-    let _ = print!(output; "{n}");
-}
-
-pub fn say_set(output: Stdout, text: &[u8], set: u64) {
-    say(output, text);
-    let _ = print!(output; "{set:016x}");
-}
-
-fn say_next(output: Stdout, n: u64) {
-    say_count(output, b" ", n);
-}
+use update::is_open;
 
 fn tell_refusal(output: Stdout, refusal: Refusal) {
-    say_count(output, b"refused by ", wide(number(refusal)));
+    let _ = print!(output; "refused by {}", number(refusal));
 }
 
 fn tell_done(output: Stdout, circles: u64, evaluations: u64, changed: u64) {
-    say_count(output, b", circles ", circles);
-    say_count(output, b", evaluations ", evaluations);
-    say_count(output, b", changed ", changed);
-}
-
-fn tell_round(output: Stdout, least: usize, round: u64, size: usize, closed: bool) {
-    say_count(output, b"round ", round);
-    say_count(output, b" of circle ", least as u64);
-    say_count(output, b", sets ", size as u64);
-    if closed {
-        say(output, b", closed");
-    }
-}
-
-fn open_number(open: Open) -> u64 {
-    match open {
-        Open::Nothing => 0,
-        Open::Load => 1,
-        Open::Replacement => 2,
-    }
+    let _ = print!(output; ", circles {circles}, evaluations {evaluations}, changed {changed}");
 }
 
 // How many points an update has that was opened at one point, or by a load; without an update there is none.
-fn usual_count(open: Open) -> u64 {
-    match open {
-        Open::Nothing => 0,
-        Open::Load => 1,
-        Open::Replacement => 1,
-    }
-}
-
-// A point at a further place of the array, where one stands.
-fn tell_place(output: Stdout, place: u64, q: Point) {
-    if q.node == 0 && q.count == 0 {
-        return;
-    }
-    say_count(output, b", ", place);
-    say(output, b":");
-    say_next(output, q.node as u64);
-    say_next(output, q.count as u64);
+fn usual_count(open: Open) -> usize {
+    usize::from(is_open(open))
 }
 
 // What a record has beyond one point: how many points there are, if that is unusual, and what stands at the further places.
 fn tell_others(output: Stdout, record: Record) {
-    let open = record.open;
-    let count = record.count as u64;
-    if count != usual_count(open) {
-        say_count(output, b", points ", count);
+    let count = record.count;
+    if count != usual_count(record.open) {
+        let _ = print!(output; ", points {count}");
     }
-    for i in 1..8 {
-        let q = record.points[i];
-        tell_place(output, i as u64, q);
+    for (place, point) in record.points.iter().enumerate().skip(1) {
+        if point.node != 0 || point.count != 0 {
+            let _ = print!(output; ", {place}: {} {}", point.node, point.count);
+        }
     }
 }
 
 // The record's fields in their order, as a line's end. Of the points it has the first place, so that a record with one point is told as shortly as one
 // without any; all that is more is said behind.
 fn tell_record(output: Stdout, record: Record) {
-    let open = record.open;
+    let Record {
+        nodes,
+        rank,
+        round,
+        circles,
+        evaluations,
+        ..
+    } = record;
+    let held = u8::from(record.held);
+    let open = record.open as u8;
     let first = record.points[0];
-    say(output, b" |");
-    say_next(output, bit(record.held));
-    say_next(output, open_number(open));
-    say_next(output, record.nodes as u64);
-    say_next(output, first.node as u64);
-    say_next(output, first.count as u64);
-    say_next(output, record.rank as u64);
-    say_next(output, record.round);
-    say_next(output, record.circles);
-    say_next(output, record.evaluations);
+    let _ = print!(output;
+        " | {held} {open} {nodes} {} {} {rank} {round} {circles} {evaluations}",
+        first.node, first.count
+    );
     tell_others(output, record);
-    say(output, b"\n");
+    let _ = println!(output);
 }
 
 // A load or a replacement, by its name: the record that it leaves goes on, and where it is refused the one that it was given.
 pub fn tell_begun(
     output: Stdout,
-    name: &[u8],
+    name: &str,
     record: Record,
     begun: Result<Record, Refusal>,
 ) -> Record {
-    say(output, name);
+    let _ = print!(output; "{name}: ");
     let next = match begun {
         Ok(next) => {
-            say(output, b"opened");
+            let _ = print!(output; "opened");
             next
         }
-        Err(r) => {
-            tell_refusal(output, r);
+        Err(refusal) => {
+            tell_refusal(output, refusal);
             record
         }
     };
@@ -138,32 +81,31 @@ fn tell_answer(output: Stdout, answer: Answer) {
             round,
             size,
             closed,
-        } => tell_round(output, least, round, size, closed),
+        } => {
+            let end = if closed { ", closed" } else { "" };
+            let _ = print!(output; "round {round} of circle {least}, sets {size}{end}");
+        }
         Answer::Done {
             circles,
             evaluations,
             changed,
         } => {
-            say(output, b"done");
+            let _ = print!(output; "done");
             tell_done(output, circles, evaluations, changed);
         }
     }
 }
 
 // A step likewise.
-pub fn tell_stepped(
-    output: Stdout,
-    record: Record,
-    stepped: Result<Stepped, Refusal>,
-) -> Record {
-    say(output, b"step: ");
+pub fn tell_stepped(output: Stdout, record: Record, stepped: Result<Stepped, Refusal>) -> Record {
+    let _ = print!(output; "step: ");
     let next = match stepped {
-        Ok(d) => {
-            tell_answer(output, d.answer);
-            d.record
+        Ok(made) => {
+            tell_answer(output, made.answer);
+            made.record
         }
-        Err(r) => {
-            tell_refusal(output, r);
+        Err(refusal) => {
+            tell_refusal(output, refusal);
             record
         }
     };
@@ -174,38 +116,40 @@ pub fn tell_stepped(
 // A run, by its name and its budget, with the record that it left.
 pub fn tell_ran(
     output: Stdout,
-    name: &[u8],
+    name: &str,
     budget: u64,
     answer: Result<Run, Refusal>,
     next: Record,
 ) -> Record {
-    say_count(output, name, budget);
+    let _ = print!(output; "{name} {budget}: ");
     match answer {
-        Ok(Run::Paused { rounds }) => say_count(output, b": paused, rounds ", rounds),
-        Ok(Run::Finished {
-            rounds,
-            circles,
-            evaluations,
-            changed,
-        }) => {
-            say_count(output, b": finished, rounds ", rounds);
+        Ok(Run::Paused { rounds }) => {
+            let _ = print!(output; "paused, rounds {rounds}");
+        }
+        Ok(
+            Run::Finished {
+                rounds,
+                circles,
+                evaluations,
+                changed,
+            },
+        ) => {
+            let _ = print!(output; "finished, rounds {rounds}");
             tell_done(output, circles, evaluations, changed);
         }
-        Err(r) => {
-            say(output, b": ");
-            tell_refusal(output, r);
-        }
+        Err(refusal) => tell_refusal(output, refusal),
     }
     tell_record(output, next);
     next
 }
 
 pub fn tell_reading(output: Stdout, instance: usize, reading: Result<u64, Refusal>) {
-    say_count(output, b"read ", instance as u64);
-    say(output, b": ");
+    let _ = print!(output; "read {instance}: ");
     match reading {
-        Ok(set) => say_set(output, b"", set),
-        Err(r) => tell_refusal(output, r),
+        Ok(set) => {
+            let _ = print!(output; "{set:016x}");
+        }
+        Err(refusal) => tell_refusal(output, refusal),
     }
-    say(output, b"\n");
+    let _ = println!(output);
 }

@@ -19,9 +19,8 @@ pub fn read(
     ensures { ReadSays table.now (lent held.now held_owns.now sets.now earlier.now) «record» instance result }
 {
     judge_look(table, record, held, held_owns, sets, earlier)?;
-    if is_declared(table, held, record.nodes, instance) {
-        let set = sets[instance];
-        return Ok(set);
+    if !is_declared(table, held, record.nodes, instance) {
+        return Err(Refusal::Undeclared);
     }
-    Err(Refusal::Undeclared)
+    Ok(sets[instance])
 }
