@@ -3,7 +3,8 @@ ghost use Rattle.std.specs.Prelude.{◌≡◌, ◌+◌, ◌<◌, ◌^◌};
 ghost use Rattle.text_line.specs.Hex.{num_at};
 ghost use Rattle.text_frame.specs.Frames.{wrong_length, child_at, production_of, frame_of, line_after};
 ghost use Rattle.text_frame.specs.Calls.{FrameAtSays};
-ghost use Rattle.text_frame.specs.declared.Rule.TheVariants.{Header, Symbol, Production, Equation};
+ghost use Rattle.text_frame.specs.declared.Frame.TheVariants as kind;
+ghost use Rattle.text_frame.specs.declared.Rule.TheVariants.{Header, Symbol, Equation};
 
 use crate::{Change, Children, Frame, Rule, Step};
 use refusal::Refusal;
@@ -38,24 +39,24 @@ fn pair(text: &[u8], place: usize) -> u16
     text_line::number(text, place, 4) as u16
 }
 
-fn header(text: &[u8], place: usize) -> Rule
+fn header(text: &[u8], place: usize) -> Frame
     requires { place + 28 < 2 ^ 64 }
-    ensures { result ≡ Header (num_at 2 text.now (place + 2)) (num_at 2 text.now (place + 4)) }
+    ensures { result ≡ kind.Rule (Header (num_at 2 text.now (place + 2)) (num_at 2 text.now (place + 4))) }
 {
-    Rule::Header {
+    Frame::Rule(Rule::Header {
         symbols: byte(text, place + 2),
         productions: byte(text, place + 4),
-    }
+    })
 }
 
-fn symbol(text: &[u8], place: usize) -> Rule
+fn symbol(text: &[u8], place: usize) -> Frame
     requires { place + 28 < 2 ^ 64 }
-    ensures { result ≡ Symbol (num_at 2 text.now (place + 2)) (num_at 2 text.now (place + 4)) }
+    ensures { result ≡ kind.Rule (Symbol (num_at 2 text.now (place + 2)) (num_at 2 text.now (place + 4))) }
 {
-    Rule::Symbol {
+    Frame::Rule(Rule::Symbol {
         synthesized: byte(text, place + 2),
         inherited: byte(text, place + 4),
-    }
+    })
 }
 
 // Child j of a production, 0 where it has none.
@@ -70,26 +71,9 @@ fn child_at(text: &[u8], place: usize, count: u8, j: u8) -> u8
     }
 }
 
-// A production, of whose children the first four are kept.
-fn production(text: &[u8], place: usize, count: u8) -> Rule
-    requires { place + 28 < 2 ^ 64 }
-    ensures { result ≡ Production (num_at 2 text.now (place + 2)) count (record { one = child_at text.now place count 0; two = child_at text.now place count 1; three = child_at text.now place count 2; four = child_at text.now place count 3 }) }
-{
-    Rule::Production {
-        left: byte(text, place + 2),
-        count,
-        children: Children {
-            one: child_at(text, place, count, 0),
-            two: child_at(text, place, count, 1),
-            three: child_at(text, place, count, 2),
-            four: child_at(text, place, count, 3),
-        },
-    }
-}
-
-// The same where there are as many digits as its count asks for.
+// A production, of whose children the first four are kept, where there are as many digits as its count asks for.
 #[tactic(auto, unfolding(crate::specs::Frames::production_of))]
-fn production_frame(text: &[u8], place: usize, n: usize, line: u32) -> Frame
+fn production(text: &[u8], place: usize, n: usize, line: u32) -> Frame
     requires { place + 28 < 2 ^ 64 }
     ensures { result ≡ production_of text.now place n line }
 {
@@ -98,7 +82,16 @@ fn production_frame(text: &[u8], place: usize, n: usize, line: u32) -> Frame
     if n != asked {
         return wrong(line);
     }
-    Frame::Rule(production(text, place, count))
+    Frame::Rule(Rule::Production {
+        left: byte(text, place + 2),
+        count,
+        children: Children {
+            one: child_at(text, place, count, 0),
+            two: child_at(text, place, count, 1),
+            three: child_at(text, place, count, 2),
+            four: child_at(text, place, count, 3),
+        },
+    })
 }
 
 // Where a set of an equation stands.
@@ -112,16 +105,16 @@ fn argument(text: &[u8], place: usize) -> Argument
     }
 }
 
-fn equation(text: &[u8], place: usize) -> Rule
+fn equation(text: &[u8], place: usize) -> Frame
     requires { place + 28 < 2 ^ 64 }
-    ensures { result ≡ Equation (num_at 2 text.now (place + 2)) (record { position = num_at 2 text.now (place + 4); index = num_at 2 text.now (place + 6) }) (record { position = num_at 2 text.now (place + 8); index = num_at 2 text.now (place + 10) }) (num_at 16 text.now (place + 12)) }
+    ensures { result ≡ kind.Rule (Equation (num_at 2 text.now (place + 2)) (record { position = num_at 2 text.now (place + 4); index = num_at 2 text.now (place + 6) }) (record { position = num_at 2 text.now (place + 8); index = num_at 2 text.now (place + 10) }) (num_at 16 text.now (place + 12))) }
 {
-    Rule::Equation {
+    Frame::Rule(Rule::Equation {
         op: byte(text, place + 2),
         a: argument(text, place + 4),
         b: argument(text, place + 8),
         c: text_line::number(text, place + 12, 16),
-    }
+    })
 }
 
 // 17.1: the frame that n digits make, by its type and how many digits this asks for; else refusal 14.
@@ -131,10 +124,10 @@ fn frame_of(text: &[u8], place: usize, n: usize, line: u32) -> Frame
     ensures { result ≡ frame_of text.now place n line }
 {
     match (byte(text, place), n) {
-        (1, 6) => Frame::Rule(header(text, place)),
-        (2, 6) => Frame::Rule(symbol(text, place)),
-        (3, _) => production_frame(text, place, n, line),
-        (4, 28) => Frame::Rule(equation(text, place)),
+        (1, 6) => header(text, place),
+        (2, 6) => symbol(text, place),
+        (3, _) => production(text, place, n, line),
+        (4, 28) => equation(text, place),
         (5, 20) => Frame::Node {
             production: byte(text, place + 2),
             own: text_line::number(text, place + 4, 16),
