@@ -1,27 +1,15 @@
 // The frame at a place of a text.
 ghost use Rattle.std.specs.Prelude.{◌≡◌, ◌+◌, ◌<◌, ◌^◌};
 ghost use Rattle.text_line.specs.Hex.{num_at};
-ghost use Rattle.text_frame.specs.Frames.{wrong_length, child_at, header_of, symbol_of, production_of, equation_of, node_of, load_of, replace_of, dump_of, corrections_of, correction_of, frame_of, line_after};
+ghost use Rattle.text_frame.specs.Frames.{wrong_length, child_at, production_of, frame_of, line_after};
 ghost use Rattle.text_frame.specs.Calls.{FrameAtSays};
+ghost use Rattle.text_frame.specs.declared.Frame.TheVariants as kind;
+ghost use Rattle.text_frame.specs.declared.Rule.TheVariants.{Header, Symbol, Equation};
 
 use crate::{Change, Children, Frame, Rule, Step};
 use refusal::Refusal;
 use sets::Argument;
 use text_line::Line;
-
-fn byte(text: &[u8], place: usize) -> u8
-    requires { place + 2 < 2 ^ 64 }
-    ensures { result ≡ num_at 2 text.now place }
-{
-    text_line::number(text, place, 2) as u8
-}
-
-fn pair(text: &[u8], place: usize) -> u16
-    requires { place + 4 < 2 ^ 64 }
-    ensures { result ≡ num_at 4 text.now place }
-{
-    text_line::number(text, place, 4) as u16
-}
 
 // Refusal 14 at a line.
 fn wrong(line: u32) -> Frame
@@ -29,201 +17,136 @@ fn wrong(line: u32) -> Frame
 {
     Frame::Refused {
         refusal: Refusal::Frame,
-        line: line,
+        line,
     }
 }
 
-fn header_frame(text: &[u8], place: usize, n: usize, line: u32) -> Frame
-    requires { place + 28 < 2 ^ 64 }
-    ensures { result ≡ header_of text.now place n line }
+// Two digits.
+#[tactic(auto, using(text_line::proofs::Values::num_small))]
+fn byte(text: &[u8], place: usize) -> u8
+    requires { place + 2 < 2 ^ 64 }
+    ensures { result ≡ num_at 2 text.now place }
 {
-    if n != 6 {
-        return wrong(line);
-    }
-    let symbols = byte(text, place + 2);
-    let productions = byte(text, place + 4);
+    text_line::number(text, place, 2) as u8
+}
+
+// Four digits.
+#[tactic(auto, using(text_line::proofs::Values::num_small))]
+fn pair(text: &[u8], place: usize) -> u16
+    requires { place + 4 < 2 ^ 64 }
+    ensures { result ≡ num_at 4 text.now place }
+{
+    text_line::number(text, place, 4) as u16
+}
+
+fn header(text: &[u8], place: usize) -> Frame
+    requires { place + 28 < 2 ^ 64 }
+    ensures { result ≡ kind.Rule (Header (num_at 2 text.now (place + 2)) (num_at 2 text.now (place + 4))) }
+{
     Frame::Rule(Rule::Header {
-        symbols: symbols,
-        productions: productions,
+        symbols: byte(text, place + 2),
+        productions: byte(text, place + 4),
     })
 }
 
-fn symbol_frame(text: &[u8], place: usize, n: usize, line: u32) -> Frame
+fn symbol(text: &[u8], place: usize) -> Frame
     requires { place + 28 < 2 ^ 64 }
-    ensures { result ≡ symbol_of text.now place n line }
+    ensures { result ≡ kind.Rule (Symbol (num_at 2 text.now (place + 2)) (num_at 2 text.now (place + 4))) }
 {
-    if n != 6 {
-        return wrong(line);
-    }
-    let synthesized = byte(text, place + 2);
-    let inherited = byte(text, place + 4);
     Frame::Rule(Rule::Symbol {
-        synthesized: synthesized,
-        inherited: inherited,
+        synthesized: byte(text, place + 2),
+        inherited: byte(text, place + 4),
     })
 }
 
+// Child j of a production, 0 where it has none.
 fn child_at(text: &[u8], place: usize, count: u8, j: u8) -> u8
     requires { (place + 28 < 2 ^ 64) × (j < 4) }
     ensures { result ≡ child_at text.now place count j }
 {
     if j < count {
-        byte(text, place + (6 + 2 * (j as usize)))
+        byte(text, place + (6 + 2 * usize::from(j)))
     } else {
         0
     }
 }
 
-fn production_frame(text: &[u8], place: usize, n: usize, line: u32) -> Frame
+// A production, of whose children the first four are kept, where there are as many digits as its count asks for.
+#[tactic(auto, unfolding(crate::specs::Frames::production_of))]
+fn production(text: &[u8], place: usize, n: usize, line: u32) -> Frame
     requires { place + 28 < 2 ^ 64 }
     ensures { result ≡ production_of text.now place n line }
 {
-    if n < 6 {
-        return wrong(line);
-    }
     let count = byte(text, place + 4);
-    let asked = 6 + 2 * (count as usize);
+    let asked = 6 + 2 * usize::from(count);
     if n != asked {
         return wrong(line);
     }
-    let left = byte(text, place + 2);
-    let one = child_at(text, place, count, 0);
-    let two = child_at(text, place, count, 1);
-    let three = child_at(text, place, count, 2);
-    let four = child_at(text, place, count, 3);
     Frame::Rule(Rule::Production {
-        left: left,
-        count: count,
+        left: byte(text, place + 2),
+        count,
         children: Children {
-            one: one,
-            two: two,
-            three: three,
-            four: four,
+            one: child_at(text, place, count, 0),
+            two: child_at(text, place, count, 1),
+            three: child_at(text, place, count, 2),
+            four: child_at(text, place, count, 3),
         },
     })
 }
 
-fn equation_frame(text: &[u8], place: usize, n: usize, line: u32) -> Frame
-    requires { place + 28 < 2 ^ 64 }
-    ensures { result ≡ equation_of text.now place n line }
+// Where a set of an equation stands.
+fn argument(text: &[u8], place: usize) -> Argument
+    requires { place + 4 < 2 ^ 64 }
+    ensures { (result.position ≡ num_at 2 text.now place) × (result.index ≡ num_at 2 text.now (place + 2)) }
 {
-    if n != 28 {
-        return wrong(line);
+    Argument {
+        position: byte(text, place),
+        index: byte(text, place + 2),
     }
-    let op = byte(text, place + 2);
-    let ap = byte(text, place + 4);
-    let ai = byte(text, place + 6);
-    let bp = byte(text, place + 8);
-    let bi = byte(text, place + 10);
-    let c = text_line::number(text, place + 12, 16);
+}
+
+fn equation(text: &[u8], place: usize) -> Frame
+    requires { place + 28 < 2 ^ 64 }
+    ensures { result ≡ kind.Rule (Equation (num_at 2 text.now (place + 2)) (record { position = num_at 2 text.now (place + 4); index = num_at 2 text.now (place + 6) }) (record { position = num_at 2 text.now (place + 8); index = num_at 2 text.now (place + 10) }) (num_at 16 text.now (place + 12))) }
+{
     Frame::Rule(Rule::Equation {
-        op: op,
-        a: Argument {
-            position: ap,
-            index: ai,
-        },
-        b: Argument {
-            position: bp,
-            index: bi,
-        },
-        c: c,
+        op: byte(text, place + 2),
+        a: argument(text, place + 4),
+        b: argument(text, place + 8),
+        c: text_line::number(text, place + 12, 16),
     })
 }
 
-fn node_frame(text: &[u8], place: usize, n: usize, line: u32) -> Frame
-    requires { place + 28 < 2 ^ 64 }
-    ensures { result ≡ node_of text.now place n line }
-{
-    if n != 20 {
-        return wrong(line);
-    }
-    let production = byte(text, place + 2);
-    let own = text_line::number(text, place + 4, 16);
-    Frame::Node {
-        production: production,
-        own: own,
-    }
-}
-
-fn load_frame(text: &[u8], place: usize, n: usize, line: u32) -> Frame
-    requires { place + 28 < 2 ^ 64 }
-    ensures { result ≡ load_of text.now place n line }
-{
-    if n != 6 {
-        return wrong(line);
-    }
-    let count = pair(text, place + 2);
-    Frame::Change(Change::Load { count: count })
-}
-
-fn replace_frame(text: &[u8], place: usize, n: usize, line: u32) -> Frame
-    requires { place + 28 < 2 ^ 64 }
-    ensures { result ≡ replace_of text.now place n line }
-{
-    if n != 10 {
-        return wrong(line);
-    }
-    let point = pair(text, place + 2);
-    let count = pair(text, place + 6);
-    Frame::Change(Change::Replace {
-        point: point,
-        count: count,
-    })
-}
-
-fn dump_frame(n: usize, line: u32) -> Frame
-    ensures { result ≡ dump_of n line }
-{
-    if n != 2 {
-        return wrong(line);
-    }
-    Frame::Dump
-}
-
-fn corrections_frame(text: &[u8], place: usize, n: usize, line: u32) -> Frame
-    requires { place + 28 < 2 ^ 64 }
-    ensures { result ≡ corrections_of text.now place n line }
-{
-    if n != 4 {
-        return wrong(line);
-    }
-    let count = byte(text, place + 2);
-    Frame::Change(Change::Corrections { count: count })
-}
-
-fn correction_frame(text: &[u8], place: usize, n: usize, line: u32) -> Frame
-    requires { place + 28 < 2 ^ 64 }
-    ensures { result ≡ correction_of text.now place n line }
-{
-    if n != 10 {
-        return wrong(line);
-    }
-    let point = pair(text, place + 2);
-    let count = pair(text, place + 6);
-    Frame::Point {
-        point: point,
-        count: count,
-    }
-}
-
-// The frame that n digits make.
-#[tactic(auto, unfolding(crate::specs::Frames::frame_of, crate::specs::Frames::kind_of))]
+// 17.1: the frame that n digits make, by its type and how many digits this asks for; else refusal 14.
+#[tactic(auto, unfolding(crate::specs::Frames::frame_of, crate::specs::Frames::kind_of, crate::specs::Frames::header_of, crate::specs::Frames::symbol_of, crate::specs::Frames::production_of, crate::specs::Frames::equation_of, crate::specs::Frames::node_of, crate::specs::Frames::load_of, crate::specs::Frames::replace_of, crate::specs::Frames::dump_of, crate::specs::Frames::corrections_of, crate::specs::Frames::correction_of))]
 fn frame_of(text: &[u8], place: usize, n: usize, line: u32) -> Frame
     requires { place + 28 < 2 ^ 64 }
     ensures { result ≡ frame_of text.now place n line }
 {
-    let kind = byte(text, place);
-    match kind {
-        1 => header_frame(text, place, n, line),
-        2 => symbol_frame(text, place, n, line),
-        3 => production_frame(text, place, n, line),
-        4 => equation_frame(text, place, n, line),
-        5 => node_frame(text, place, n, line),
-        6 => load_frame(text, place, n, line),
-        7 => replace_frame(text, place, n, line),
-        8 => dump_frame(n, line),
-        9 => corrections_frame(text, place, n, line),
-        11 => correction_frame(text, place, n, line),
+    match (byte(text, place), n) {
+        (1, 6) => header(text, place),
+        (2, 6) => symbol(text, place),
+        (3, _) => production(text, place, n, line),
+        (4, 28) => equation(text, place),
+        (5, 20) => Frame::Node {
+            production: byte(text, place + 2),
+            own: text_line::number(text, place + 4, 16),
+        },
+        (6, 6) => Frame::Change(Change::Load {
+            count: pair(text, place + 2),
+        }),
+        (7, 10) => Frame::Change(Change::Replace {
+            point: pair(text, place + 2),
+            count: pair(text, place + 6),
+        }),
+        (8, 2) => Frame::Dump,
+        (9, 4) => Frame::Change(Change::Corrections {
+            count: byte(text, place + 2),
+        }),
+        (11, 10) => Frame::Point {
+            point: pair(text, place + 2),
+            count: pair(text, place + 6),
+        },
         _ => wrong(line),
     }
 }
@@ -240,29 +163,24 @@ pub fn line_after(line: u32) -> u32
 pub fn frame_at(text: &[u8], place: usize, line: u32) -> Step
     ensures { FrameAtSays text.now place line result }
 {
-    let found = text_line::line_at(text, place);
-    match found {
+    match text_line::line_at(text, place) {
         Line::End => Step {
             frame: Frame::Over,
-            place: place,
-            line: line,
+            place,
+            line,
         },
         Line::Bad => Step {
             frame: Frame::Refused {
                 refusal: Refusal::Line,
-                line: line,
+                line,
             },
-            place: place,
-            line: line,
+            place,
+            line,
         },
-        Line::Digits(n) => {
-            let frame = frame_of(text, place, n, line);
-            let after = line_after(line);
-            Step {
-                frame: frame,
-                place: place + (n + 1),
-                line: after,
-            }
-        }
+        Line::Digits(n) => Step {
+            frame: frame_of(text, place, n, line),
+            place: place + (n + 1),
+            line: line_after(line),
+        },
     }
 }

@@ -14,23 +14,22 @@ fn after_part(table: &[u64; 2657], p: usize) -> Expected
     ensures { result ≡ after_part table.now p }
 {
     if p + 1 < production_count(table) {
-        return Expected::AtProduction(p + 1);
+        Expected::AtProduction(p + 1)
+    } else {
+        Expected::Ended
     }
-    Expected::Ended
 }
 
 // The first equation of a production from a position on, or what comes behind its last.
+#[tactic(auto, using(crate::proofs::Seeking::seek_goes, crate::proofs::Seeking::seek_stops, crate::proofs::Seeking::seek_ends))]
 fn seek(table: &[u64; 2657], p: usize, q: usize) -> Expected
     requires { (p < 64) × (Shaped table.now p × (q ≤ suc (child_count table.now p))) }
     ensures { result ≡ seek_from (suc (child_count table.now p) - q) table.now p q }
 {
-    let count = child_count(table, p);
-    let mut at = q;
-    while at <= count {
+    for at in q..=child_count(table, p) {
         if 0 < defined_at(table, p, at) {
             return Expected::AtEquation(p, at, 0);
         }
-        at += 1;
     }
     after_part(table, p)
 }
@@ -42,20 +41,23 @@ fn after_equation(table: &[u64; 2657], p: usize, q: usize, k: usize) -> Expected
     ensures { result ≡ next_of table.now (AtEquation p q k) }
 {
     if k + 1 < defined_at(table, p, q) {
-        return Expected::AtEquation(p, q, k + 1);
+        Expected::AtEquation(p, q, k + 1)
+    } else {
+        seek(table, p, q + 1)
     }
-    seek(table, p, q + 1)
 }
 
 // Behind symbol s.
+#[tactic(auto, unfolding(crate::specs::Walk::next_of))]
 fn after_symbol(table: &[u64; 2657], s: usize) -> Expected
     requires { s < 32 }
     ensures { result ≡ next_of table.now (AtSymbol s) }
 {
     if s + 1 < symbol_count(table) {
-        return Expected::AtSymbol(s + 1);
+        Expected::AtSymbol(s + 1)
+    } else {
+        Expected::AtProduction(0)
     }
-    Expected::AtProduction(0)
 }
 
 // What comes behind a frame.

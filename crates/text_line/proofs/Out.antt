@@ -33,6 +33,10 @@ pub hex_more : (l : List ℕ) (place k v : ℕ) → sets l place (hex_digits (k 
 unfolding hex_digits
 hex_more l place k v = rw add-one (sets_last (hex_digits k (v / 16)) l place (hex_of (v % 16)) ∙ rw hex_length)
 
+pub hex_none : (l : List ℕ) (place i v : ℕ) → i ≡ 0 → sets l place (hex_digits i v) ≡ l
+unfolding hex_digits
+hex_none l place i v e = rw e
+
 -- stores in a row, one list behind the other
 pub sets_append : (xs ys l : List ℕ) (place : ℕ) → sets l place (xs ++ ys) ≡ sets (sets l place xs) (place + length xs) ys
 sets_append [] ys l place = rw add-zero

@@ -3,35 +3,16 @@ use mathlib.Core.Path.{◌≡◌, refl, ap, sym, ◌∙◌}
 use mathlib.Core.List.{List}
 use mathlib.Core.Bool.{Bool, true, false, cond, ◌&&◌}
 use mathlib.Core.Logic.{⊎_elim}
-use Prim.Native.Nat.{ℕ, zero, suc, ◌+◌, ◌-◌, ◌%◌, ◌≤◌, ◌<◌}
+use Prim.Native.Nat.{ℕ, zero, suc, ◌+◌, ◌-◌, ◌%◌, ◌≤◌, ◌<◌, min}
 use native.Mathlib.Omega.{arith}
 use native.Mathlib.Nat.{add-zero}
-use borrow.Author.Tests.{lt-ltb, le-ltb, le-leb, lt-leb, eq-eqb, ne_eqb, leb-true, eqb-true}
+use borrow.Author.Tests.{lt-ltb, le-ltb, le-leb, eq-eqb, leb-true, eqb-true}
 use lib.Dec.{ltb, leb, eqb}
 use lib.ListN.{length, get_or, get_or-eq_default}
 use Rattle.text_line.specs.Hex.{is_hex, digits_at}
 use Rattle.text_line.specs.Text.{line_of, line_at}
 use Rattle.text_line.specs.declared.Line.TheVariants.{Digits, Bad, End}
 use Rattle.text_line.proofs.Values.{lt_or_ge}
-
--- the row goes on over a digit
-pub row_more : (most : ℕ) (s : List ℕ) (place i : ℕ) → i < most → is_hex (get_or s (place + i) 0) ≡ true → digits_at (most - i) s (place + i) ≡ 1 + digits_at (most - (i + 1)) s (place + (i + 1))
-unfolding digits_at
-row_more most s place i h e =
-    let a : most - i ≡ suc (most - (i + 1)) = omega arith in
-    let b : place + i + 1 ≡ place + (i + 1) = omega arith in
-    rw a (rw e (rw b (omega arith)))
-
--- the row ends at a byte that is no digit
-pub row_stop : (most : ℕ) (s : List ℕ) (place : ℕ) → is_hex (get_or s place 0) ≡ false → digits_at most s place ≡ 0
-unfolding digits_at
-row_stop zero s place e = refl
-row_stop (suc m) s place e = rw e
-
--- no fuel, no row
-pub row_none : (s : List ℕ) (place : ℕ) → digits_at 0 s place ≡ 0
-unfolding digits_at
-row_none s place = refl
 
 -- n digits in a row and then none
 pub row_is : (m n : ℕ) (s : List ℕ) (place : ℕ) → n < m → ((j : ℕ) → j < n → is_hex (get_or s (place + j) 0) ≡ true) → is_hex (get_or s (place + n) 0) ≡ false → digits_at m s place ≡ n
@@ -44,6 +25,37 @@ row_is (suc m) (suc n) s place h p e =
     let q : (j : ℕ) → j < n → is_hex (get_or s (place + 1 + j) 0) ≡ true = λ j k. let y : place + 1 + j ≡ place + suc j = omega arith in rw y (p (suc j) (omega arith)) in
     let f : is_hex (get_or s (place + 1 + n) 0) ≡ false = let y : place + 1 + n ≡ place + suc n = omega arith in rw y e in
     rw (a, row_is m n s (place + 1) (omega arith) q f)
+
+-- m digits in a row, and no more are counted
+row_full : (m : ℕ) (s : List ℕ) (place : ℕ) → ((j : ℕ) → j < m → is_hex (get_or s (place + j) 0) ≡ true) → digits_at m s place ≡ m
+unfolding digits_at
+row_full zero s place p = refl
+row_full (suc m) s place p =
+    let x : place + 0 ≡ place = add-zero place in
+    let a : is_hex (get_or s place 0) ≡ true = rw x at (p 0 (omega arith)) in
+    let q : (j : ℕ) → j < m → is_hex (get_or s (place + 1 + j) 0) ≡ true = λ j k. let y : place + 1 + j ≡ place + suc j = omega arith in rw y (p (suc j) (omega arith)) in
+    rw (a, row_full m s (place + 1) q)
+
+-- past the end a text has no digit
+past_hex : (s : List ℕ) (i : ℕ) → length s ≤ i → is_hex (get_or s i 0) ≡ false
+unfolding is_hex
+past_hex s i h = rw (get_or-eq_default s 0 h)
+
+-- the bytes from a place up to i are digits
+abbrev pub AllHex : List ℕ → ℕ → ℕ → Type 0
+AllHex s place i = (k : ℕ) → place ≤ k → k < i → is_hex (get_or s k 0) ≡ true
+
+pub row_stops : (s : List ℕ) (place i : ℕ) → place ≤ i → i < place + 29 → AllHex s place i → is_hex (get_or s i 0) ≡ false → i - place ≡ digits_at 29 s place
+row_stops s place i h k a e =
+    let x : place + (i - place) ≡ i = omega arith in
+    sym (row_is 29 (i - place) s place (omega arith) (λ j l. a (place + j) (omega arith) (omega arith)) (rw x e))
+
+pub row_ends : (s : List ℕ) (place end : ℕ) → end ≡ min (length s) (place + 29) → AllHex s place end → end - place ≡ digits_at 29 s place
+row_ends s place end e a =
+    ⊎_elim (λ (h : end < place + 29).
+    ⊎_elim (λ (k : end < place). let x : end - place ≡ 0 = omega arith in rw x (sym (row_is 29 0 s place (omega arith) (λ j l. absurd (omega arith)) (past_hex s (place + 0) (omega arith)))))
+    (λ (k : place ≤ end). row_stops s place end k h a (past_hex s end (omega arith))) (lt_or_ge end place))
+    (λ (h : place + 29 ≤ end). let x : end - place ≡ 29 = omega arith in rw x (sym (row_full 29 s place (λ j l. a (place + j) (omega arith) (omega arith))))) (lt_or_ge end (place + 29))
 
 most_of : (b : Bool) (x m : ℕ) → x ≤ m → cond b (suc x) 0 ≤ suc m
 most_of true x m h = omega arith
@@ -70,22 +82,6 @@ row_hex (suc m) s place j h = by_first (is_hex (get_or s place 0)) refl (row_hex
 
 -- the line at a place, by the row of digits there and the byte behind it
 module _ (s : List ℕ) (place n : ℕ) (e : n ≡ digits_at 29 s place) (h : place < length s) where
-  pub line_few : n < 2 → Bad ≡ line_at s place
-  unfolding line_at
-  line_few k = rw (← e) (simp (lt-ltb _ _ h, lt-leb _ _ k))
-
-  pub line_many : 28 < n → Bad ≡ line_at s place
-  unfolding line_at
-  line_many k = let g : 2 ≤ n = omega arith in rw (← e) (simp (lt-ltb _ _ h, le-leb _ _ g, lt-leb _ _ k))
-
-  pub line_odd : 2 ≤ n → n ≤ 28 → (n % 2 ≡ 0 → ⊥) → Bad ≡ line_at s place
-  unfolding line_at
-  line_odd g k o = rw (← e) (simp (lt-ltb _ _ h, le-leb _ _ g, le-leb _ _ k, ne_eqb _ _ o))
-
-  pub line_open : 2 ≤ n → n ≤ 28 → n % 2 ≡ 0 → (get_or s (place + n) 0 ≡ 10 → ⊥) → Bad ≡ line_at s place
-  unfolding line_at
-  line_open g k o b = rw (← e) (simp (lt-ltb _ _ h, le-leb _ _ g, le-leb _ _ k, eq-eqb _ _ o, ne_eqb _ _ b))
-
   pub line_whole : 2 ≤ n → n ≤ 28 → n % 2 ≡ 0 → get_or s (place + n) 0 ≡ 10 → Digits n ≡ line_at s place
   unfolding line_at
   line_whole g k o b = rw (← e) (simp (lt-ltb _ _ h, le-leb _ _ g, le-leb _ _ k, eq-eqb _ _ o, eq-eqb _ _ b))

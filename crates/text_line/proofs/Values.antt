@@ -58,3 +58,7 @@ num_small (suc k) s place = rw pow-suc (omega (arith, num_small k s place, value
 
 pub num_below : (k m : ℕ) (s : List ℕ) (place : ℕ) → k ≤ m → num_at k s place < 16 ^ m
 num_below k m s place h = omega (arith, num_small k s place, pow-le-pow_right {n = 16} (lit< tt) h)
+
+-- fifteen digits leave room for one more
+pub num_room : (k : ℕ) (s : List ℕ) (place : ℕ) → k < 16 → num_at k s place < 2 ^ 60
+num_room k s place h = num_below k 15 s place (omega arith)

@@ -26,64 +26,22 @@ pub enum Line {
 pub fn wide(x: u8) -> u64
     ensures { (result ≡ x) × (result < 256) }
 {
-    x as u64
+    u64::from(x)
 }
 
 // The byte at a place, and 0 past the end.
 pub fn byte_at(text: &[u8], place: usize) -> u8
     ensures { result ≡ get_or text.now place 0 }
 {
-    if place < text.len() { text[place] } else { 0 }
+    text.get(place).copied().unwrap_or(0)
 }
 
 // Whether a byte is a digit.
+#[tactic(auto, unfolding(crate::specs::Hex::is_hex))]
 pub fn is_hex(b: u8) -> bool
     ensures { result ≡ is_hex b }
 {
-    if b < 48 {
-        return false;
-    }
-    if b < 58 {
-        return true;
-    }
-    if b < 97 {
-        return false;
-    }
-    b < 103
-}
-
-// How many digits stand in a row, where the text has 29 bytes more.
-fn digits_in(text: &[u8], place: usize) -> usize
-    requires { place + 29 ≤ length text.now }
-    ensures { result ≡ digits_at 29 text.now place }
-{
-    let mut i: usize = 0;
-    while i < AHEAD {
-        let b = text[place + i];
-        if is_hex(b) {
-            i += 1;
-        } else {
-            return i;
-        }
-    }
-    i
-}
-
-// The same near the text's end, past which it reads 0.
-fn digits_past(text: &[u8], place: usize) -> usize
-    requires { place + 29 < 2 ^ 64 }
-    ensures { result ≡ digits_at 29 text.now place }
-{
-    let mut i: usize = 0;
-    while i < AHEAD {
-        let b = byte_at(text, place + i);
-        if is_hex(b) {
-            i += 1;
-        } else {
-            return i;
-        }
-    }
-    i
+    matches!(b, b'0'..=b'9' | b'a'..=b'f')
 }
 
 // How many digits stand in a row, 29 at the most: one more than a line may have.
@@ -91,13 +49,17 @@ pub fn digits(text: &[u8], place: usize) -> usize
     requires { place + 29 < 2 ^ 64 }
     ensures { result ≡ digits_at 29 text.now place }
 {
-    if place + AHEAD <= text.len() {
-        return digits_in(text, place);
+    let end = text.len().min(place + AHEAD);
+    for i in place..end {
+        if !is_hex(text[i]) {
+            return i - place;
+        }
     }
-    digits_past(text, place)
+    end.saturating_sub(place)
 }
 
 // The line that starts at a place.
+#[tactic(auto, unfolding(crate::specs::Text::line_at))]
 pub fn line_at(text: &[u8], place: usize) -> Line
     ensures { result ≡ line_at text.now place }
 {
@@ -105,101 +67,57 @@ pub fn line_at(text: &[u8], place: usize) -> Line
         return Line::End;
     }
     let n = digits(text, place);
-    if n < 2 {
-        return Line::Bad;
-    }
-    if LONGEST < n {
-        return Line::Bad;
-    }
-    if n % 2 != 0 {
-        return Line::Bad;
-    }
-    let b = byte_at(text, place + n);
-    if b != LF {
+    if n < 2 || LONGEST < n || n % 2 != 0 || byte_at(text, place + n) != LF {
         return Line::Bad;
     }
     Line::Digits(n)
 }
 
 // What a digit stands for, and 0 for any other byte.
+#[tactic(auto, unfolding(crate::specs::Hex::digit_value, crate::specs::Hex::is_hex))]
 pub fn digit_value(b: u8) -> u64
     ensures { result ≡ digit_value b }
 {
-    if b < 48 {
-        return 0;
+    match b {
+        b'0'..=b'9' => u64::from(b - b'0'),
+        b'a'..=b'f' => u64::from(b - b'a' + 10),
+        _ => 0,
     }
-    if b < 58 {
-        return (b - 48) as u64;
-    }
-    if b < 97 {
-        return 0;
-    }
-    if b < 103 {
-        return (b - 87) as u64;
-    }
-    0
-}
-
-// The number that so many digits of the text stand for, big-endian.
-fn number_in(text: &[u8], place: usize, width: usize) -> u64
-    requires { (place + width ≤ length text.now) × (width ≤ 16) }
-    ensures { result ≡ num_at width text.now place }
-{
-    let mut v: u64 = 0;
-    let mut i: usize = 0;
-    while i < width {
-        v = v * 16 + digit_value(text[place + i]);
-        i += 1;
-    }
-    v
-}
-
-// The same near the text's end, past which it reads 0.
-fn number_past(text: &[u8], place: usize, width: usize) -> u64
-    requires { (place + width < 2 ^ 64) × (width ≤ 16) }
-    ensures { result ≡ num_at width text.now place }
-{
-    let mut v: u64 = 0;
-    let mut i: usize = 0;
-    while i < width {
-        let d = digit_value(byte_at(text, place + i));
-        v = v * 16 + d;
-        i += 1;
-    }
-    v
 }
 
 // The number that so many digits stand for, big-endian.
+#[tactic(auto, using(crate::proofs::Values::num_more, crate::proofs::Values::num_room, crate::proofs::Values::value_small), unfolding(crate::specs::Hex::num_at))]
 pub fn number(text: &[u8], place: usize, width: usize) -> u64
     requires { (place + width < 2 ^ 64) × (width ≤ 16) }
     ensures { result ≡ num_at width text.now place }
 {
-    if place + width <= text.len() {
-        return number_in(text, place, width);
+    let mut v = 0;
+    for i in 0..width {
+        let d = digit_value(byte_at(text, place + i));
+        v = v * 16 + d;
     }
-    number_past(text, place, width)
+    v
 }
 
 // The digit of a number below 16.
+#[tactic(auto, unfolding(crate::specs::Hex::hex_of))]
 pub fn hex_digit(n: u8) -> u8
     requires { n < 16 }
     ensures { result ≡ hex_of n }
 {
-    if n < 10 { 48 + n } else { 87 + n }
+    if n < 10 { b'0' + n } else { b'a' + n - 10 }
 }
 
 // Writes the last digits of a number, and says where the next byte goes.
+#[tactic(auto, using(crate::proofs::Out::hex_more, crate::proofs::Out::hex_none))]
 pub fn put_hex(buffer: &mut [u8], place: usize, width: usize, v: u64) -> usize
     requires { place + width ≤ length buffer.old }
     ensures { (result ≡ place + width) × (buffer.new ≡ sets buffer.old place (hex_digits width v)) }
 {
-    let mut i: usize = width;
-    let mut x: u64 = v;
-    while 0 < i {
-        i -= 1;
-        let d = hex_digit((x % 16) as u8);
-        buffer[place + i] = d;
-        x = x / 16;
+    let mut x = v;
+    for i in (0..width).rev() {
+        buffer[place + i] = hex_digit((x % 16) as u8);
+        x /= 16;
     }
     place + width
 }

@@ -4,8 +4,8 @@ use mathlib.Core.Path.{sym}
 use Rattle.text_line.proofs.Rows.{line_says}
 use Rattle.text_frame.proofs.kinds.frame_at.Goals as goal
 
-pub frame_of-frame-requires : goal.frame_of-frame-requires
-frame_of-frame-requires c = omega (arith, (line_says c.args.text.now c.args.place c.in-Digits.n (sym c.in-Digits.ensures)).inside)
+pub frame_of-requires : goal.frame_of-requires
+frame_of-requires c = omega (arith, (line_says c.args.text.now c.args.place c.in-Digits.n (sym c.in-Digits.ensures)).inside)
 
 pub overflow_add-result : goal.overflow_add-result
 overflow_add-result c = omega (arith, (line_says c.args.text.now c.args.place c.in-Digits.n (sym c.in-Digits.ensures)).many)
