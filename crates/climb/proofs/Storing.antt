@@ -2,7 +2,7 @@
 use mathlib.Core.Path.{◌≡◌, refl, sym, ap, ◌∙◌, fun_ext}
 use mathlib.Core.Bool.{Bool, true, false, cond, ◌||◌, or-true}
 use mathlib.Core.Logic.{⊎_elim}
-use mathlib.Core.List.{List, [], ◌∷◌, map}
+use mathlib.Core.List.{List, [], ◌∷◌, ◌++◌, map}
 use Prim.Native.Nat.{ℕ, suc, ◌<◌}
 use lib.Dec.{eqb}
 use borrow.Author.Tests.{eqb-true, eqb-false, eq-eqb}
@@ -43,11 +43,11 @@ stores_at (c ∷ C) s g h x =
     there : eqb x c ≡ false → cond (member C x) (g x) (at (set s c (g c)) x) ≡ cond (eqb x c || member C x) (g x) (at s x)
     there e = rw (e, get_or-set_other s c x (g c) 0 (eqb-false x c e))
 
--- the values of g in their order are g's
-pub puts_map : (C s : List ℕ) (g : Assignment) → puts s C (map g C) ≡ stores s C g
+-- the values of g in their order, whatever stands behind them, are g's
+pub puts_map : (C s : List ℕ) (g : Assignment) (r : List ℕ) → puts s C (map g C ++ r) ≡ stores s C g
 unfolding puts stores
-puts_map [] s g = refl
-puts_map (c ∷ C) s g = puts_map C (set s c (g c)) g
+puts_map [] s g r = refl
+puts_map (c ∷ C) s g r = puts_map C (set s c (g c)) g r
 
 -- ---- a round in memory is a stage
 

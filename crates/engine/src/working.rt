@@ -4,9 +4,11 @@ ghost use Rattle.engine.specs.Lent.{StepLeaves, RunLeaves, RanLeaves};
 ghost use Rattle.update_judge.specs.Order.{Going};
 ghost use Rattle.update.specs.Memories.{lent};
 
+use climb::Wires;
 use refusal::Refusal;
 use update::{Record, Run};
 use update_judge::judge_step;
+use update_round::Ranked;
 use update_step::{Ran, Stepped, run_in, step_in};
 use wire_plan::prepare;
 
@@ -30,7 +32,7 @@ fn step_going<'a>(
     let mut label = [0u16; 4096];
     let mut members = [0u16; 4096];
     let mut ends = [0u16; 4097];
-    let mut values = [0u64; 4096];
+    let values = &mut [0u64; 4096];
     let tree = &held[..nodes];
     let count = prepare(
         table,
@@ -44,23 +46,20 @@ fn step_going<'a>(
         &mut ends,
     );
     let owns = &held_owns[..nodes];
-    step_in(
-        table,
-        owns,
-        &a,
-        &b,
-        &left,
-        &rule,
-        &label,
-        &members,
-        &ends,
+    let wires = Wires {
+        n: 8 * nodes,
+        a: &a,
+        b: &b,
+        left: &left,
+        rule: &rule,
+    };
+    let ranked = Ranked {
+        label: &label,
+        members: &members,
+        ends: &ends,
         count,
-        8 * nodes,
-        earlier,
-        record,
-        sets,
-        &mut values,
-    )
+    };
+    step_in(table, owns, wires, ranked, earlier, record, sets, values)
 }
 
 // One step: a round of the first due circle, or done where none is due.
@@ -99,7 +98,7 @@ fn run_going<'a>(
     let mut label = [0u16; 4096];
     let mut members = [0u16; 4096];
     let mut ends = [0u16; 4097];
-    let mut values = [0u64; 4096];
+    let values = &mut [0u64; 4096];
     let tree = &held[..nodes];
     let count = prepare(
         table,
@@ -113,23 +112,21 @@ fn run_going<'a>(
         &mut ends,
     );
     let owns = &held_owns[..nodes];
-    run_in(
-        table,
-        owns,
-        &a,
-        &b,
-        &left,
-        &rule,
-        &label,
-        &members,
-        &ends,
+    let wires = Wires {
+        n: 8 * nodes,
+        a: &a,
+        b: &b,
+        left: &left,
+        rule: &rule,
+    };
+    let ranked = Ranked {
+        label: &label,
+        members: &members,
+        ends: &ends,
         count,
-        8 * nodes,
-        earlier,
-        budget,
-        record,
-        sets,
-        &mut values,
+    };
+    run_in(
+        table, owns, wires, ranked, earlier, budget, record, sets, values,
     )
 }
 
@@ -146,9 +143,7 @@ pub fn run_record<'a>(
     ensures { RanLeaves table.now held.now held_owns.now sets.old earlier.now «record» budget result sets.new }
 {
     judge_step(table, record, held, held_owns, sets, earlier)?;
-    Ok(run_going(
-        table, record, held, held_owns, sets, earlier, budget,
-    ))
+    Ok(run_going(table, record, held, held_owns, sets, earlier, budget))
 }
 
 // The same run over a record that the caller lends, which is changed in place.

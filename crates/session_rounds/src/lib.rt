@@ -2,19 +2,22 @@
 #![tactic(auto)]
 
 ghost use Rattle.std.specs.Prelude.{◌+◌, ◌≤◌, length};
-ghost use Rattle.climb.specs.Inner.Wired.{Wiring};
+ghost use Rattle.climb.specs.Inner.Wires.{WiringBy};
 ghost use Rattle.update.specs.Within.{WithinLimits};
 ghost use Rattle.update.specs.Calls.{answer_says};
-ghost use Rattle.update_round.specs.Inner.Arranged.{Circles, Lent};
+ghost use Rattle.update_round.specs.Inner.Arranged.{Lent};
+ghost use Rattle.update_round.specs.Inner.Wires.{CirclesBy};
 ghost use Rattle.update_judge.specs.Order.{Going};
 ghost use Rattle.engine.specs.Inner.Prepared.{Scratch};
 ghost use Rattle.session_rounds.specs.Telling.{Printable, AnswerPut, RoundsTold, TurnsTold};
 ghost use Rattle.circles.specs.Marks.{slots_most};
 ghost use Rattle.update.specs.Memories.{lent};
 
+use climb::Wires;
 use session_owed::{Awaited, Told};
 use text_frame::{ROUND_LINE, put_done, put_round};
 use update::{Answer, Record};
+use update_round::Ranked;
 use update_step::step_in;
 use wire_plan::prepare;
 
@@ -55,15 +58,8 @@ fn put_answer(out: &mut [u8], printed: usize, answer: Answer) -> usize
 fn tell_steps<'a>(
     table: &'a [u64; 2657],
     owns: &'a [u64],
-    a: &'a [u16],
-    b: &'a [u16],
-    left: &'a [u16],
-    rule: &'a [u16],
-    label: &'a [u16],
-    members: &'a [u16],
-    ends: &'a [u16],
-    count: usize,
-    n: usize,
+    wires: Wires<'a>,
+    ranked: Ranked<'a>,
     earlier: &'a [u64],
     turns: u64,
     record: Record,
@@ -73,11 +69,11 @@ fn tell_steps<'a>(
     printed: usize,
 ) -> Told
     requires within_limits { WithinLimits «record» }
-    requires wiring { Wiring owns.now a.now b.now left.now rule.now n }
-    requires circles { Circles n a.now b.now label.now members.now ends.now count }
-    requires lent { Lent n earlier.now sets.old values.old }
+    requires wiring { WiringBy owns.now wires }
+    requires circles { CirclesBy wires ranked }
+    requires lent { Lent wires.n earlier.now sets.old values.old }
     requires printed_in_bounds { printed ≤ length out.old }
-    ensures { TurnsTold table.now owns.now n a.now b.now left.now rule.now label.now members.now ends.now count earlier.now sets.old «record» turns printed out.old result sets.new out.new }
+    ensures { TurnsTold table.now owns.now wires.entry.n wires.entry.a.now wires.entry.b.now wires.entry.left.now wires.entry.rule.now ranked.entry.label.now ranked.entry.members.now ranked.entry.ends.now ranked.entry.count earlier.now sets.old «record» turns printed out.old result sets.new out.new }
 {
     let mut work = record;
     let mut at = printed;
@@ -90,10 +86,7 @@ fn tell_steps<'a>(
                 printed: at,
             };
         }
-        let d = step_in(
-            table, owns, a, b, left, rule, label, members, ends, count, n, earlier, work, sets,
-            values,
-        );
+        let d = step_in(table, owns, wires, ranked, earlier, work, sets, values);
         let answer = d.answer;
         work = d.record;
         at = put_answer(out, at, answer);
@@ -148,24 +141,20 @@ pub fn tell_rounds<'a>(
     let tree = &held[..nodes];
     let count = prepare(table, tree, a, b, left, rule, label, members, ends);
     let owns = &held_owns[..nodes];
-    tell_steps(
-        table,
-        owns,
-        &*a,
-        &*b,
-        &*left,
-        &*rule,
-        &*label,
-        &*members,
-        &*ends,
+    let wires = Wires {
+        n: 8 * nodes,
+        a,
+        b,
+        left,
+        rule,
+    };
+    let ranked = Ranked {
+        label,
+        members,
+        ends,
         count,
-        8 * nodes,
-        earlier,
-        turns,
-        record,
-        sets,
-        values,
-        out,
-        printed,
+    };
+    tell_steps(
+        table, owns, wires, ranked, earlier, turns, record, sets, values, out, printed,
     )
 }

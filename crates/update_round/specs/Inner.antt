@@ -1,3 +1,4 @@
 pub mod Arranged
 pub mod Tests
 pub mod Says
+pub mod Wires

@@ -68,12 +68,12 @@ module _ (S : System) (R : List (List ℕ)) (b : List ℕ) (budget : ℕ) (r₀ 
       let e : done x y z ≡ (step_of S R r b s).outcome = said_once (ap answer_says (sym v) ∙ u.answer) in
       rw (left_suc j r s l h, ← e) (record { answer = rw add-zero; next = u.next; sets = u.sets })
 
-  pub left_over : (j : ℕ) (r : Record) (s : List ℕ) → budget ≤ j → Left j r s → RunSays (run_of S R b budget r₀ s₀) (Paused j) r s
+  pub left_over : (j : ℕ) (r : Record) (s : List ℕ) → j ≡ budget → Left j r s → RunSays (run_of S R b budget r₀ s₀) (Paused budget) r s
   unfolding Left run_of
-  left_over j r s l h =
+  left_over j r s e h =
       let q : budget - j ≡ 0 = omega arith in
       let h' : run_of S R b budget r₀ s₀ ≡ after j (run_of S R b 0 r s) = rw q at h in
-      rw h' (record { answer = rw add-zero; next = refl; sets = refl })
+      rw (h', e) (record { answer = rw add-zero; next = refl; sets = refl })
 
 -- ---- a step keeps a record to its limits
 

@@ -2,11 +2,10 @@
 use mathlib.Core.Path.{◌≡◌, refl, sym, ◌∙◌}
 use mathlib.Core.Bool.{Bool}
 use mathlib.Core.List.{List}
-use Prim.Native.Nat.{ℕ, ◌-◌, ◌≤◌, ◌<◌}
-use native.Mathlib.Nat.{le_of_lt}
+use Prim.Native.Nat.{ℕ, ◌≤◌, ◌<◌, zero-le}
+use native.Mathlib.Nat.{le_refl}
 use borrow.Author.Tests.{lt-ltb, le-ltb}
 use lib.ListN.{length, get_or}
-use lib.Seq.{slice, slice-cons, length-slice}
 use Rattle.climb.specs.System.{System}
 use Rattle.climb.specs.Circuit.{due_of}
 use Rattle.climb.specs.Inner.Wired.{wired, Rows, Wiring}
@@ -30,14 +29,11 @@ pub made_done : (n : ℕ) (a : List ℕ) (r : Record) (earlier sets : List ℕ) 
 unfolding done_made
 made_done n a r earlier sets c e = rw (← e) (record { answer = refl; next = refl; sets = refl })
 
-pub made_round : (S : System) (m : List ℕ) (start end i k least size : ℕ) (closed : Bool) (r d : Record) (s s' : List ℕ) → start < end → end ≤ length m
-    → k ≡ round_number r i → RoundSays S (slice start end m) k s s' closed → least ≡ get_or m start 0 → size ≡ end - start → d ≡ round_record r i k size closed
-    → StepSays (round_made S (slice start end m) r i (round_number r i) s) (Round least k size closed) d s'
+pub made_round : (S : System) (C : List ℕ) (i k size : ℕ) (closed : Bool) (r d : Record) (s s' : List ℕ)
+    → k ≡ round_number r i → RoundSays S C k s s' closed → size ≡ length C → d ≡ round_record r i k size closed
+    → StepSays (round_made S C r i (round_number r i) s) (Round (get_or C 0 0) k size closed) d s'
 unfolding round_made
-made_round S m start end i k least size closed r d s s' up fit ek h el es ed =
-    let l : get_or (slice start end m) 0 0 ≡ least = rw (slice-cons start end m 0 up fit) (sym el) in
-    let z : length (slice start end m) ≡ size = length-slice start end m fit ∙ sym es in
-    rw (← ek, ← h.closed, ← h.sets, l, z) (record { answer = refl; next = ed; sets = refl })
+made_round S C i k size closed r d s s' ek h es ed = rw (← ek, ← h.closed, ← h.sets, ← es) (record { answer = refl; next = ed; sets = refl })
 
 -- ---- who reads whom is all that the due test and the count need
 
@@ -72,5 +68,5 @@ pub looks_of : {R : List (List ℕ)} {n : ℕ} {owns a b left rule label m e ear
 looks_of w g l = record { firsts = w.firsts; seconds = w.seconds; labels = g.labels; olds = l.olds; news = l.sets_room }
 
 -- the members of a circle have their rows
-pub place_rows : {owns a b left rule m C : List ℕ} {n start end : ℕ} → Wiring owns a b left rule n → Place n a b m C start end → Rows owns a b left rule m n start end
-place_rows w p = wiring_rows w (le_of_lt p.rise) p.room p.declared
+pub place_rows : {owns a b left rule C : List ℕ} {n : ℕ} → Wiring owns a b left rule n → Place n a b C → Rows owns a b left rule C n 0 (length C)
+place_rows w p = wiring_rows w zero-le (le_refl _) (λ k s t. p.declared k t)

@@ -8,7 +8,7 @@ pub returns : goal.returns
 unfolding eval_of
 returns c =
     let g = c.args in
+    let w = g.wires in
     let r = c.requires.row in
-    rw (c.value.ensures, c.equation_at-equation.ensures, c.wide-3.ensures, c.wide-node.ensures)
-    (value_is _ _ g.n (at g.sets.now) g.a.now g.b.now g.x _ _ _ _ r.firsts r.seconds
-    c.wide.ensures c.wide-2.ensures c.read-y.ensures c.read-z.ensures)
+    rw (c.value.ensures, c.equation_at-equation.ensures, c.from-3.ensures, c.from-node.ensures)
+    (value_is _ _ w.n (at g.sets.now) w.a.now w.b.now g.x _ _ _ _ r.firsts r.seconds c.from.ensures c.from-2.ensures c.read-y.ensures c.read-z.ensures)

@@ -3,11 +3,11 @@ use mathlib.Core.Path.{refl, sym, subst}
 use Prim.Native.Nat.{◌+◌, ◌≤◌}
 use native.Mathlib.Omega.{arith}
 use lib.ListN.{length}
-use Rattle.climb.specs.Inner.Wired.{wired}
+use Rattle.climb.specs.Inner.Wires.{wired_by}
 use Rattle.update.specs.Within.{WithinLimits}
 use Rattle.update.specs.Steps.{Outcome}
 use Rattle.update.specs.Calls.{Said, answer_says}
-use Rattle.update_round.specs.Inner.Arranged.{circles_in}
+use Rattle.update_round.specs.Inner.Wires.{circles_by}
 use Rattle.update_step.proofs.Continuing.{step_within_lem, lent_kept}
 use Rattle.session_rounds.specs.Telling.{Printable}
 use Rattle.session_rounds.proofs.Stepped.{step_fits}
@@ -19,7 +19,7 @@ use Rattle.session_rounds.proofs.tell_steps.Goals.{After-step_in-d}
 pub loop-still-init : goal.loop-still-init
 loop-still-init c =
     let g = c.args in
-    (c.requires.within_limits, refl, refl, c.requires.printed_in_bounds, refl, turn_first g.table.now g.owns.now g.n g.a.now g.b.now g.left.now g.rule.now g.label.now g.members.now g.ends.now g.count g.earlier.now g.sets.now g.«record» g.turns g.printed g.out.now)
+    (c.requires.within_limits, refl, refl, c.requires.printed_in_bounds, refl, turn_first g.table.now g.owns.now g.wires.n g.wires.a.now g.wires.b.now g.wires.left.now g.wires.rule.now g.ranked.label.now g.ranked.members.now g.ranked.ends.now g.ranked.count g.earlier.now g.sets.now g.«record» g.turns g.printed g.out.now)
 
 pub returns-then-out-at-lt-ROUND_LINE : goal.returns-then-out-at-lt-ROUND_LINE
 returns-then-out-at-lt-ROUND_LINE c =
@@ -37,13 +37,13 @@ within : (k : After-step_in-d) → WithinLimits k.step_in-d.result.«record»
 within k =
     let l = k.loop-still in
     let g = k.args in
-    step_within_lem (wired g.n g.table.now g.owns.now g.a.now g.b.now g.left.now g.rule.now) (circles_in g.n g.a.now g.b.now) l.work g.earlier.now l.sets _ _ _ l.invariant.0 (rw (← k.requires.circles.counted) k.requires.circles.few) k.step_in-d.ensures
+    step_within_lem (wired_by g.table.now g.owns.now g.wires) (circles_by g.wires) l.work g.earlier.now l.sets _ _ _ l.invariant.0 (rw (← k.requires.circles.counted) k.requires.circles.few) k.step_in-d.ensures
 
 fits : (k : After-step_in-d) → Printable (answer_says k.step_in-d.result.answer)
 fits k =
     let l = k.loop-still in
     let g = k.args in
-    subst (λ (q : Said Outcome). Printable q) (sym k.step_in-d.ensures.answer) (step_fits k.requires.circles k.requires.lent.limit g.table.now g.owns.now g.left.now g.rule.now l.work g.earlier.now l.sets l.invariant.0)
+    subst (λ (q : Said Outcome). Printable q) (sym k.step_in-d.ensures.answer) (step_fits k.requires.circles k.requires.lent.limit g.table.now g.owns.now g.wires.left.now g.wires.rule.now l.work g.earlier.now l.sets l.invariant.0)
 
 room : (k : After-step_in-d) → k.loop-still.at + 19 ≤ length k.args.out.now
 room k = let v = k.loop-still.invariant in omega (arith, k.if-out-at-lt-ROUND_LINE.false, v.3, v.4)

@@ -9,7 +9,7 @@ use Rattle.session_rounds.proofs.tell_steps.Given as goal
 abbrev pub invariant-loop-still : goal.invariant-loop-still
 invariant-loop-still l =
     WithinLimits l.work × (length l.sets ≡ length l.initial.sets) × (length l.values ≡ length l.initial.values) × (l.at ≤ length l.initial.out) × (length l.out ≡ length l.initial.out)
-    × TurnsSoFar l.table l.owns l.n l.a l.b l.left l.rule l.label l.members l.ends l.count l.earlier l.initial.sets l.initial.work l.turns l.printed l.initial.out l.still l.at l.work l.sets l.out
+    × TurnsSoFar l.table l.owns l.wires.n l.wires.a.now l.wires.b.now l.wires.left.now l.wires.rule.now l.ranked.label.now l.ranked.members.now l.ranked.ends.now l.ranked.count l.earlier l.initial.sets l.initial.work l.turns l.printed l.initial.out l.still l.at l.work l.sets l.out
 
 abbrev pub decreases-loop-still : goal.decreases-loop-still
 decreases-loop-still l = l.still

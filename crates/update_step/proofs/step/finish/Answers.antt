@@ -5,4 +5,4 @@ use Rattle.update_step.proofs.step.finish.Goals as goal
 
 pub returns : goal.returns
 unfolding shut
-returns c = let g = c.args in made_done g.n g.a.now g.r g.earlier.now g.sets.now _ c.changed-c.ensures
+returns c = let g = c.args in made_done g.wires.n g.wires.a.now g.r g.earlier.now g.sets.now _ c.changed.ensures
