@@ -37,14 +37,8 @@ not_ended (AtProduction p) k = refl
 not_ended (AtEquation p q l) k = refl
 not_ended Ended k = absurd (miss (0 ∷ 1 ∷ 2 ∷ 3 ∷ []) 4 tt k)
 
--- ---- a node kept, and one too many
+-- ---- a node kept
 module _ (taken x : ℕ) (xs : List ℕ) where
-  pub kept_in : taken < 513 → set xs taken x ≡ kept_at taken x xs
-  kept_in h = rw (lt-ltb taken 513 h)
-
-  pub kept_out : 513 ≤ taken → xs ≡ kept_at taken x xs
-  kept_out h = rw (le-ltb taken 513 h)
-
   same_room : (b : Bool) → length (cond b (set xs taken x) xs) ≡ length xs
   same_room true = length-set xs taken x
   same_room false = refl

@@ -17,6 +17,7 @@ use text_table::take_frame;
 use update::Record;
 
 // 19.5: writes a refusal behind which nothing is read.
+#[tactic(auto, using(text_frame::proofs::Printed::refusal_length))]
 fn stop(out: &mut [u8], printed: usize, record: Record, refusal: Refusal, line: u32) -> Told
     requires { printed + 13 ≤ length out.old }
     ensures { (t ps os : List ℕ) (m : Memory) → Hears (stopped t ps os m «record» (number_of refusal) line) result printed out.old out.new t ps os m }

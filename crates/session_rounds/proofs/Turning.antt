@@ -1,7 +1,7 @@
 -- Step by step what is left of an update's steps. Assumes nothing.
 use mathlib.Core.Path.{◌≡◌, refl, sym, ap, ◌∙◌, subst}
 use mathlib.Core.Bool.{Bool}
-use mathlib.Core.List.{List, [], ◌++◌, append_assoc, append-nil}
+use mathlib.Core.List.{List, ◌++◌, append_assoc, append-nil}
 use Prim.Native.Nat.{ℕ, zero, suc, ◌+◌, ◌-◌, ◌≤◌, ◌<◌}
 use native.Mathlib.Omega.{arith}
 use borrow.Author.Tests.{lt-ltb}
@@ -63,9 +63,6 @@ module _ (t owns : List ℕ) (n : ℕ) (a b left rule label members ends : List 
 
   abbrev pub Tells : Told → List ℕ → List ℕ → Type 0
   Tells told s out = TurnsTold t owns n a b left rule label members ends count olds s₀ r₀ turns printed out₀ told s out
-
-  pub turn_first : TurnsSoFar turns printed r₀ s₀ out₀
-  turn_first = record { come = λ held held_owns g o h. record { text = []; within = refl; shown = refl; behind = omega arith; going = g; nodes = refl } }
 
   abbrev made_from : Record → List ℕ → Made
   made_from r s = step_of (wired n t owns a b left rule) (circles_in n a b) r olds s

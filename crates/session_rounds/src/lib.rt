@@ -55,12 +55,12 @@ fn put_answer(out: &mut [u8], printed: usize, answer: Answer) -> usize
 }
 
 // Steps over the arrays of the wiring and of the circles, until done, until the turns are used up or until there is no room for a line.
-fn tell_steps<'a>(
-    table: &'a [u64; 2657],
-    owns: &'a [u64],
-    wires: Wires<'a>,
-    ranked: Ranked<'a>,
-    earlier: &'a [u64],
+fn tell_steps(
+    table: &[u64; 2657],
+    owns: &[u64],
+    wires: Wires,
+    ranked: Ranked,
+    earlier: &[u64],
     turns: u64,
     record: Record,
     sets: &mut [u64],
@@ -77,31 +77,21 @@ fn tell_steps<'a>(
 {
     let mut work = record;
     let mut at = printed;
-    let mut still = turns;
-    while 0 < still {
+    for made in 0..turns {
         if out.len() - at < ROUND_LINE {
             return Told {
-                awaited: Awaited::Working { turns: still },
+                awaited: Awaited::Working {
+                    turns: turns - made,
+                },
                 record: work,
                 printed: at,
             };
         }
         let d = step_in(table, owns, wires, ranked, earlier, work, sets, values);
-        let answer = d.answer;
         work = d.record;
-        at = put_answer(out, at, answer);
-        still -= 1;
-        if let Answer::Done {
-            circles,
-            evaluations,
-            changed,
-        } = answer
-        {
-            return Told {
-                awaited: Awaited::Command,
-                record: work,
-                printed: at,
-            };
+        at = put_answer(out, at, d.answer);
+        if let Answer::Done { .. } = d.answer {
+            break;
         }
     }
     Told {

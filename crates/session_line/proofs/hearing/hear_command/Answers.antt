@@ -6,14 +6,20 @@ use Rattle.session_line.proofs.Heard.{as_well}
 use Rattle.session_line.proofs.hearing.hear_command.Goals as goal
 
 pub returns-in-Change : goal.returns-in-Change
-returns-in-Change c = as_well (a_change c.args.table.now c.args.parts.now c.args.part_owns.now (lent c.args.held.now c.args.held_owns.now c.args.sets.now c.args.earlier.now) c.args.«record» c.args.frame c.args.line c.in-Change.change c.in-Change.is) c.hear_change.ensures
+returns-in-Change c =
+    let a = c.args in
+    let m = lent a.held.now a.held_owns.now a.sets.now a.earlier.now in
+    as_well (a_change a.table.now a.parts.now a.part_owns.now m a.«record» a.frame a.line c.in-Change.change c.in-Change.is) c.hear_change.ensures
 
 pub returns-in-Dump : goal.returns-in-Dump
 returns-in-Dump c =
+    let a = c.args in
+    let m = lent a.held.now a.held_owns.now a.sets.now a.earlier.now in
     let e = c.tell_sets.ensures in
-    as_well (a_dump c.args.table.now c.args.parts.now c.args.part_owns.now (lent c.args.held.now c.args.held_owns.now c.args.sets.now c.args.earlier.now) c.args.«record» c.args.frame c.args.line c.in-Dump.is) (record { awaited = e.0; next = e.1; place = e.2; shown = e.3; words_then = refl; parts_then = refl; owns_then = refl; memory = refl })
+    as_well (a_dump a.table.now a.parts.now a.part_owns.now m a.«record» a.frame a.line c.in-Dump.is) (record { awaited = e.0; next = e.1; place = e.2; shown = e.3; words_then = refl; parts_then = refl; owns_then = refl; memory = refl })
 
 pub returns-in_default : goal.returns-in_default
 returns-in_default c =
     let a = c.args in
-    as_well (no_command c.args.table.now c.args.parts.now c.args.part_owns.now (lent c.args.held.now c.args.held_owns.now c.args.sets.now c.args.earlier.now) c.args.«record» a.frame a.line c.in_default.not-Change c.in_default.not-Dump) (c.stop_at.ensures a.table.now a.parts.now a.part_owns.now (lent c.args.held.now c.args.held_owns.now c.args.sets.now c.args.earlier.now))
+    let m = lent a.held.now a.held_owns.now a.sets.now a.earlier.now in
+    as_well (no_command a.table.now a.parts.now a.part_owns.now m a.«record» a.frame a.line c.in_default.not-Change c.in_default.not-Dump) (c.stop_at.ensures a.table.now a.parts.now a.part_owns.now m)
