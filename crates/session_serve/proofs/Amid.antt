@@ -5,15 +5,13 @@ use mathlib.Core.List.{List}
 use Prim.Native.Nat.{ℕ, suc, ◌<◌}
 use native.Mathlib.Omega.{arith}
 use lib.ListN.{length, take, drop}
+use Rattle.std.specs.Prelude.{Result, Ok}
 use Rattle.session_serve.specs.Serving.{IsPrefixLen}
-use Rattle.refusal.specs.Numbers.{number_of, verdict_of}
 use Rattle.refusal.specs.declared.Refusal.{Refusal}
-use Rattle.refusal.specs.declared.Verdict.TheVariants.{Sound, Refused}
-use Rattle.refusal.proofs.Distinct.{number_low}
 use Rattle.session_memory.specs.declared.State.{State}
 use Rattle.session_memory.specs.Suspended.{Suspended, owed_for}
 use Rattle.session_feed.specs.declared.Fed.{Fed}
-use Rattle.session_feed.specs.Feeding.{Feeds, FeedSays, takes, refuses}
+use Rattle.session_feed.specs.Feeding.{fed_to, Feeds, FeedSays, takes, refuses}
 use Rattle.session_feed.specs.Laws as laws
 use Rattle.session_feed.specs.Laws.{Again, Calls, Piece}
 use Rattle.session_feed.proofs.Cutting.{owed_less}
@@ -30,9 +28,9 @@ pub data Amid (d : Suspended) (out piece : List ℕ) (d' : State → Suspended) 
 abbrev pub to_do : List ℕ → (State → Suspended) → Progress → ℕ
 to_do piece d r = cond r.more (suc (length (owed_for (d r.state) (drop r.place piece)))) 0
 
--- what is refused is not sound
-unsound : (q : Refusal) → Refused q ≡ Sound → ⊥
-unsound q e = let z : number_of q ≡ 0 = ap verdict_of e in omega (arith, number_low q)
+-- an answer is the one that is given
+fed_of : {x y : Fed} → ◌≡◌ {A = Result Fed Refusal} (Ok x) (Ok y) → x ≡ y
+fed_of h = cc
 
 -- before the first call: b are the buffers, with any state
 pub amid_first : (b : State → Suspended) (out piece : List ℕ) (s : State) (r : Progress) → r ≡ going_on s 0 true → Amid (b r.state) out piece b out r
@@ -46,11 +44,11 @@ module _ (d : Suspended) (out piece : List ℕ) where
     called s s' true c f = still (laws.more c refl f)
     called s s' false c f = whole (laws.last c refl f)
 
-    next_of_lem : (s : State) {n : ℕ} {text : List ℕ} {at : ℕ} {fed : Fed} {r : Progress} → Calls Again d out piece 0 n text (e s) o at → FeedSays (e s) piece at o d' out' fed → Goes fed r
+    next_of_lem : (s : State) {n : ℕ} {text : List ℕ} {at : ℕ} {fed : Result Fed Refusal} {r : Progress} → Calls Again d out piece 0 n text (e s) o at → FeedSays (e s) piece at o d' out' fed → Goes fed r
         → Amid d out piece d' out' r
-    next_of_lem s c (takes {s = s'} {more = more} z fits f) (on h) = called s s' more c f
+    next_of_lem s c (takes {s = s'} {more = more} z fits f) (on x h) = subst (λ (y : Fed). Amid d out piece d' out' (going_on y.state y.place y.more)) (fed_of h) (called s s' more c f)
     next_of_lem s c (takes z fits f) (over s') = ended s'
-    next_of_lem s c (refuses {q = q} z same left) (on h) = absurd (unsound q h)
+    next_of_lem s c (refuses z same left) (on x h) = absurd (cc)
     next_of_lem s c (refuses z same left) (over s') = ended s'
 
     pub amid_next : (now : Progress) {r : Progress} → Amid d out piece e o now → now.more ≡ true → Served (e now.state) piece now.place o d' out' r → Amid d out piece d' out' r
@@ -58,11 +56,15 @@ module _ (d : Suspended) (out piece : List ℕ) where
     amid_next now (whole p) h v = absurd (true≢false (sym h))
     amid_next now (ended s) h v = absurd (true≢false (sym h))
 
-    less_of : (s : State) {at : ℕ} {fed : Fed} {r : Progress} → FeedSays (e s) piece at o d' out' fed → Goes fed r → to_do piece d' r < suc (length (owed_for (e s) (drop at piece)))
-    less_of s (takes {more = true} z fits f) (on h) = omega (arith, owed_less f)
-    less_of s (takes {more = false} z fits f) (on h) = omega arith
+    less_than : (s s' : State) {at place printed : ℕ} (more : Bool) → Feeds (e s) piece at o (d' s') place printed more out' → to_do piece d' (going_on s' place more) < suc (length (owed_for (e s) (drop at piece)))
+    less_than s s' true f = omega (arith, owed_less f)
+    less_than s s' false f = omega arith
+
+    less_of : (s : State) {at : ℕ} {fed : Result Fed Refusal} {r : Progress} → FeedSays (e s) piece at o d' out' fed → Goes fed r → to_do piece d' r < suc (length (owed_for (e s) (drop at piece)))
+    less_of s {at = at} (takes {s = s'} {more = more} z fits f) (on x h) =
+        subst (λ (y : Fed). to_do piece d' (going_on y.state y.place y.more) < suc (length (owed_for (e s) (drop at piece)))) (fed_of h) (less_than s s' more f)
     less_of s (takes z fits f) (over s') = omega arith
-    less_of s (refuses {q = q} z same left) (on h) = absurd (unsound q h)
+    less_of s (refuses z same left) (on x h) = absurd (cc)
     less_of s (refuses z same left) (over s') = omega arith
 
     pub amid_less : (now : Progress) {r : Progress} → now.more ≡ true → Served (e now.state) piece now.place o d' out' r → to_do piece d' r < to_do piece e now

@@ -1,12 +1,12 @@
--- The verdict tells whether the session goes on. Assumes nothing.
+-- The answer tells whether the session goes on. Assumes nothing.
 use Rattle.session_serve.specs.Serving.{on, over}
 use Rattle.session_serve.proofs.print_fed.Goals as goal
 
+pub returns-in_default : goal.returns-in_default
+returns-in_default g c = rw c.stop.ensures (over _)
+
 pub returns-then-print : goal.returns-then-print
-returns-then-print g c = on c.in-Sound.is
+returns-then-print g c = on c.in-Ok.fed c.in-Ok.is
 
-pub returns-else-print : goal.returns-else-print
-returns-else-print g c = rw c.stop.ensures (over _)
-
-pub returns-in-Refused : goal.returns-in-Refused
-returns-in-Refused g c = rw c.stop-in-Refused.ensures (over _)
+pub returns : goal.returns
+returns g c = rw c.stop-2.ensures (over _)
