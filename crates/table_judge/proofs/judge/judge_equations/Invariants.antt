@@ -1,11 +1,8 @@
 -- The positions of a production in order. The loop goes on while none is refused. Assumes nothing.
-use Rattle.std.proofs.Common.{◌≡◌, ◌+◌, ◌≤◌, ◌-◌}
+use Rattle.std.proofs.Common.{◌≡◌}
 use Rattle.table.specs.First.{scan}
 use Rattle.table.specs.Inner.Parts.{position_of}
 use Rattle.table_judge.proofs.judge.judge_equations.Given as goal
 
 abbrev pub invariant-loop-q : goal.invariant-loop-q
-invariant-loop-q l = (l.q ≤ l.count + 1) × (scan (position_of l.table l.p) l.q ≡ 0)
-
-abbrev pub decreases-loop-q : goal.decreases-loop-q
-decreases-loop-q l = l.count + 1 - l.q
+invariant-loop-q l = scan (position_of l.table l.p) l.q ≡ 0

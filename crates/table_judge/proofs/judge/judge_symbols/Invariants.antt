@@ -1,11 +1,8 @@
 -- The symbols' frames in order. The loop goes on while none is refused. Assumes nothing.
-use Rattle.std.proofs.Common.{◌≡◌, ◌≤◌, ◌-◌}
+use Rattle.std.proofs.Common.{◌≡◌}
 use Rattle.table.specs.First.{scan}
 use Rattle.table.specs.Inner.Parts.{symbol_number}
 use Rattle.table_judge.proofs.judge.judge_symbols.Given as goal
 
 abbrev pub invariant-loop-s : goal.invariant-loop-s
-invariant-loop-s l = (l.s ≤ l.count) × (scan (symbol_number l.table) l.s ≡ 0)
-
-abbrev pub decreases-loop-s : goal.decreases-loop-s
-decreases-loop-s l = l.count - l.s
+invariant-loop-s l = scan (symbol_number l.table) l.s ≡ 0
