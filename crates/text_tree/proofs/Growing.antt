@@ -1,6 +1,7 @@
 -- A tree's lines, one by one. Assumes nothing.
 use mathlib.Core.Path.{◌≡◌, refl, ap, sym, ◌∙◌}
 use mathlib.Core.List.{List, []}
+use Rattle.std.proofs.Common.{Result, Ok, Err}
 use Prim.Native.Nat.{ℕ, suc, ◌+◌, ◌-◌, ◌≤◌, ◌<◌}
 use native.Mathlib.Omega.{arith}
 use native.Mathlib.Numerals.{add-one}
@@ -10,19 +11,20 @@ use Rattle.refusal.specs.declared.Refusal.{Refusal}
 use Rattle.refusal.specs.declared.Refusal.TheVariants as why
 use Rattle.text_frame.specs.Frames.{frame_at}
 use Rattle.text_tree.specs.Planting.{Nodes, good, bad, node_before, node_then, nodes_at, load_then, tree_at}
-use Rattle.text_tree.specs.Growing.{tree_answer, stray, Stored}
+use Rattle.text_tree.specs.Growing.{tree_read, tree_answer, stray, Stored}
 use Rattle.text_frame.specs.declared.Frame.{Frame}
 use Rattle.text_frame.specs.declared.Frame.TheVariants.{Rule, Node, Point, Change, Dump, Refused, Over}
 use Rattle.text_frame.specs.declared.Change as change
 use Rattle.text_frame.specs.declared.Change.TheVariants.{Load, Replace, Corrections}
 use Rattle.text_frame.specs.declared.Step.{Step}
+use Rattle.text_frame.specs.Calls.{misread}
+use Rattle.text_frame.specs.declared.Misread.{Misread}
 use Rattle.text_tree.specs.declared.ReadTree.{ReadTree}
-use Rattle.text_tree.specs.declared.ReadTree.TheVariants.{Read, Refused as ReadRefused}
 use Rattle.text_tree.proofs.Trees.{nodes_forth}
 
 -- ---- frames of another type
 
-pub no_refusal : (f : Frame) (line : ℕ) → ((r : Refusal) (l : ℕ) → f ≡ Refused r l → ⊥) → ReadRefused why.Frame line ≡ tree_answer (stray f line)
+pub no_refusal : (f : Frame) (line : ℕ) → ((r : Refusal) (l : ℕ) → f ≡ Refused r l → ⊥) → Err (misread why.Frame line) ≡ tree_answer (stray f line)
 no_refusal (Rule a) line k = refl
 no_refusal (Node a b) line k = refl
 no_refusal (Point a b) line k = refl
@@ -72,9 +74,9 @@ strayed Over line = record { refusal = why.Frame; at = line; is = refl }
 -- ---- the nodes of n lines, with some of them stored
 
 -- the answer where n nodes are asked for
-abbrev pub answer_of : ℕ → Nodes → ReadTree
-answer_of n (good ps owns place line) = Read n place line
-answer_of n (bad refusal line) = ReadRefused refusal line
+abbrev pub answer_of : ℕ → Nodes → Result ReadTree Misread
+answer_of n (good ps owns place line) = Ok (tree_read n place line)
+answer_of n (bad refusal line) = Err (misread refusal line)
 
 -- memory with the nodes stored from i on
 abbrev pub put_at : ℕ → Nodes → List ℕ → List ℕ
@@ -98,14 +100,14 @@ put_owns_before i p o (good ps owns place line) a = refl
 put_owns_before i p o (bad refusal line) a = refl
 
 by_count : (n : ℕ) (s : List ℕ) (place line : ℕ) (x : Nodes) → nodes_at n s place line ≡ x → answer_of n x ≡ tree_answer x
-by_count n s place line (good ps owns end next) e = ap (λ (k : ℕ). Read k end next) (sym (nodes_forth n s place line ps owns end next e).count)
+by_count n s place line (good ps owns end next) e = ap (λ (k : ℕ). Ok (tree_read k end next)) (sym (nodes_forth n s place line ps owns end next e).count)
 by_count n s place line (bad refusal l) e = refl
 
-stored_all : (n i : ℕ) (x : Nodes) (a b a' b' : List ℕ) (at l : ℕ) → answer_of n x ≡ Read n at l → put_at 0 x a ≡ a' → put_owns_at 0 x b ≡ b' → Stored x a b a' b'
+stored_all : (n i : ℕ) (x : Nodes) (a b a' b' : List ℕ) (at l : ℕ) → answer_of n x ≡ Ok (tree_read n at l) → put_at 0 x a ≡ a' → put_owns_at 0 x b ≡ b' → Stored x a b a' b'
 stored_all n i (good ps owns place line) a b a' b' at l e p q = (sym p, sym q)
 stored_all n i (bad refusal line) a b a' b' at l e p q = tt
 
-stored_none : (n : ℕ) (x : Nodes) (a b a' b' : List ℕ) (r : Refusal) (l : ℕ) → answer_of n x ≡ ReadRefused r l → Stored x a b a' b'
+stored_none : (n : ℕ) (x : Nodes) (a b a' b' : List ℕ) (r : Refusal) (l : ℕ) → answer_of n x ≡ Err (misread r l) → Stored x a b a' b'
 stored_none n (good ps owns place line) a b a' b' r l e = absurd (let z : ◌≡◌ {A = ℕ} 0 1 = cc in omega arith)
 stored_none n (bad refusal line) a b a' b' r l e = tt
 
@@ -136,13 +138,13 @@ module _ (s : List ℕ) (count place line : ℕ) (a₀ b₀ : List ℕ) where
 
   module _ (a b : List ℕ) (i at l : ℕ) (k : Onward s count place line a₀ b₀ a b i at l) where
     -- at the end
-    pub onward_end : count ≤ i → (Read i at l ≡ tree_answer all) × Stored all a₀ b₀ a b
+    pub onward_end : count ≤ i → (Ok (tree_read i at l) ≡ tree_answer all) × Stored all a₀ b₀ a b
     unfolding nodes_at
     onward_end h =
         let z : count - i ≡ 0 = omega arith in
         let n : i ≡ count = omega (arith, k.upto) in
-        let e : answer_of count all ≡ Read count at l = k.answer ∙ ap (λ (m : ℕ). answer_of count (nodes_at m s at l)) z in (
-          ap (λ (m : ℕ). Read m at l) n ∙ sym e ∙ by_count count s place line all refl,
+        let e : answer_of count all ≡ Ok (tree_read count at l) = k.answer ∙ ap (λ (m : ℕ). answer_of count (nodes_at m s at l)) z in (
+          ap (λ (m : ℕ). Ok (tree_read m at l)) n ∙ sym e ∙ by_count count s place line all refl,
           stored_all count i all a₀ b₀ a b at l e (k.productions ∙ ap (λ (m : ℕ). put_at i (nodes_at m s at l) a) z) (k.owns ∙ ap (λ (m : ℕ). put_owns_at i (nodes_at m s at l) b) z),
         )
 
@@ -154,12 +156,12 @@ module _ (s : List ℕ) (count place line : ℕ) (a₀ b₀ : List ℕ) where
           ap (λ (m : ℕ). nodes_at m s at l) z ∙ ap (λ (x : Step). node_then x.frame l (nodes_at (count - (i + 1)) s x.place x.line)) (sym found)
 
       -- a line that is no node's
-      pub onward_stop : ((p o : ℕ) → r.frame ≡ Node p o → ⊥) → (x : ReadTree) → x ≡ tree_answer (stray r.frame l)
+      pub onward_stop : ((p o : ℕ) → r.frame ≡ Node p o → ⊥) → (x : Result ReadTree Misread) → x ≡ tree_answer (stray r.frame l)
           → (x ≡ tree_answer all) × Stored all a₀ b₀ a b
       onward_stop q x e =
           let w = strayed r.frame l in
           let g : nodes_at (count - i) s at l ≡ bad w.refusal w.at = turn ∙ no_node r.frame l (nodes_at (count - (i + 1)) s r.place r.line) q ∙ w.is in
-          let f : answer_of count all ≡ ReadRefused w.refusal w.at = k.answer ∙ ap (answer_of count) g in
+          let f : answer_of count all ≡ Err (misread w.refusal w.at) = k.answer ∙ ap (answer_of count) g in
           (e ∙ ap tree_answer w.is ∙ sym f ∙ by_count count s place line all refl, stored_none count all a₀ b₀ a b w.refusal w.at f)
 
       -- a node's
@@ -185,7 +187,7 @@ module _ (s : List ℕ) (place line : ℕ) (r : Step) (found : r ≡ frame_at s 
   pub load_lines : (n : ℕ) → r.frame ≡ Change (Load n) → tree_at s place line ≡ nodes_at n s r.place r.line
   load_lines n e = by_load ∙ ap (λ (f : Frame). load_then f line (λ m. nodes_at m s r.place r.line)) e
 
-  pub load_stray : load_then r.frame line (λ n. nodes_at n s r.place r.line) ≡ stray r.frame line → (x : ReadTree) → x ≡ tree_answer (stray r.frame line) → (a b a' b' : List ℕ)
+  pub load_stray : load_then r.frame line (λ n. nodes_at n s r.place r.line) ≡ stray r.frame line → (x : Result ReadTree Misread) → x ≡ tree_answer (stray r.frame line) → (a b a' b' : List ℕ)
       → (x ≡ tree_answer (tree_at s place line)) × Stored (tree_at s place line) a b a' b'
   load_stray q x e a b a' b' =
       let w = strayed r.frame line in

@@ -3,6 +3,7 @@ use mathlib.Core.Path.{◌≡◌, refl, ap, sym, ◌∙◌}
 use mathlib.Core.Bool.{Bool, true, false, cond, ◌||◌}
 use mathlib.Core.Logic.{⊎_elim}
 use mathlib.Core.List.{List, [], ◌∷◌}
+use Rattle.std.proofs.Common.{Ok, Err}
 use Prim.Native.Nat.{ℕ, zero, suc, ◌≤◌, ◌<◌}
 use native.Mathlib.Omega.{arith}
 use borrow.Author.Tests.{lt-ltb, le-ltb, eq-eqb}
@@ -19,9 +20,11 @@ use Rattle.tree.specs.Tree.{judge_nodes, judge_tree}
 use Rattle.refusal.proofs.Distinct.{number_low}
 use Rattle.text_tree.specs.Written.{refusal_of}
 use Rattle.text_tree.specs.Planting.{Nodes, good, bad, tree_at}
-use Rattle.text_tree.specs.Growing.{unless, room_refusal, fitted, planting_at, tree_answer, productions_after, owns_after, Stored, grown_order, kept_order}
+use Rattle.text_tree.specs.Growing.{unless, room_refusal, fitted, planting_at, tree_read, tree_answer, productions_after, owns_after, Stored, grown_order, kept_order}
 use Rattle.text_tree.specs.Laws.{AllFit}
-use Rattle.text_tree.specs.declared.ReadTree.TheVariants.{Read, Refused}
+use Rattle.text_frame.specs.Calls.{misread}
+use Rattle.text_frame.specs.declared.Misread.{Misread}
+use Rattle.text_tree.specs.declared.ReadTree.{ReadTree}
 use Rattle.text_tree.proofs.Numbers.{by_number}
 use Rattle.text_tree.proofs.Copying.{front}
 use Rattle.text_tree.proofs.Trees.{tree_forth}
@@ -91,13 +94,21 @@ pub record Found (x : Nodes) (c place line : ℕ) : Type 0 where
   pub is : x ≡ good ps owns place line
   pub count : length ps ≡ c
 
-pub found : (x : Nodes) (c place line : ℕ) → tree_answer x ≡ Read c place line → Found x c place line
-found (good ps owns p l) c place line e = record { ps = ps; owns = owns; is = let u : p ≡ place = cc in let v : l ≡ line = cc in cc; count = cc }
+pub found : (x : Nodes) (c place line : ℕ) → tree_answer x ≡ Ok (tree_read c place line) → Found x c place line
+found (good ps owns p l) c place line e =
+    let q : tree_read (length ps) p l ≡ tree_read c place line = cc in
+    let u : p ≡ place = ap (λ (x : ReadTree). x.place) q in
+    let v : l ≡ line = ap (λ (x : ReadTree). x.line) q in
+    record { ps = ps; owns = owns; is = cc; count = ap (λ (x : ReadTree). x.count) q }
 found (bad r l) c place line e = absurd (let z : ◌≡◌ {A = ℕ} 0 1 = cc in omega arith)
 
-pub not_found : (x : Nodes) (r : Refusal) (line : ℕ) → tree_answer x ≡ Refused r line → x ≡ bad r line
+pub not_found : (x : Nodes) (r : Refusal) (line : ℕ) → tree_answer x ≡ Err (misread r line) → x ≡ bad r line
 not_found (good ps owns p l) r line e = absurd (let z : ◌≡◌ {A = ℕ} 0 1 = cc in omega arith)
-not_found (bad q l) r line e = let u : q ≡ r = cc in let v : l ≡ line = cc in cc
+not_found (bad q l) r line e =
+    let k : misread q l ≡ misread r line = cc in
+    let u : q ≡ r = ap (λ (x : Misread). x.refusal) k in
+    let v : l ≡ line = ap (λ (x : Misread). x.line) k in
+    cc
 
 pub even : (ps owns : List ℕ) → AllFit ps owns → length ps ≡ length owns
 even [] [] f = refl
@@ -147,10 +158,10 @@ module _ (t s : List ℕ) (place line : ℕ) (a b : List ℕ) (a-long : length a
 
   -- the answer and the lent memory
   pub read_said : 0 ≡ refusal_by (kept_order t a' c room room_owns) → (ps owns ps' owns' : List ℕ) → ps' ≡ sets ps 0 (take c a') → owns' ≡ sets owns 0 (take c b')
-      → (Read c end next ≡ tree_answer whole) × ((ps' ≡ productions_after whole ps) × (owns' ≡ owns_after whole owns))
+      → (Ok (tree_read c end next) ≡ tree_answer whole) × ((ps' ≡ productions_after whole ps) × (owns' ≡ owns_after whole owns))
   read_said e ps owns ps' owns' f g =
       let k : c ≤ 512 = (roomed t a' c room room_owns (sym e)).few in
-      rw (read_whole e) (ap (λ (m : ℕ). Read m end next) (sym w.count), (f ∙ ap (sets ps 0) (productions_kept k), g ∙ ap (sets owns 0) (owns_kept k)))
+      rw (read_whole e) (ap (λ (m : ℕ). Ok (tree_read m end next)) (sym w.count), (f ∙ ap (sets ps 0) (productions_kept k), g ∙ ap (sets owns 0) (owns_kept k)))
 
 -- the table comes first
 module _ (t s : List ℕ) (place line room room_owns : ℕ) where

@@ -3,6 +3,7 @@ use mathlib.Core.Path.{◌≡◌, refl, ap, sym, ◌∙◌}
 use mathlib.Core.Bool.{Bool, true, false, cond, ◌||◌}
 use mathlib.Core.List.{List}
 use mathlib.Core.Logic.{◌⊎◌, inl, inr}
+use Rattle.std.proofs.Common.{Result}
 use Prim.Native.Nat.{ℕ, zero, suc, ◌≤◌, ◌<◌}
 use native.Mathlib.Omega.{arith}
 use borrow.Author.Tests.{ltb-true, ltb-false, lt-ltb, le-ltb}
@@ -25,6 +26,7 @@ use Rattle.text_tree.specs.Planting.{Nodes, good, bad, tree_at}
 use Rattle.text_tree.specs.Growing.{unless, room_refusal, grown_order, fitted, planting_at, tree_answer, productions_after, owns_after}
 use Rattle.text_tree.specs.Calls.{ReadTreeSays}
 use Rattle.text_tree.specs.Refused.{LinesRead, ReadsTree, by1to5, by13or14, by8or6or7, by15, read, ReadTreeExactly}
+use Rattle.text_frame.specs.declared.Misread.{Misread}
 use Rattle.text_tree.specs.declared.ReadTree.{ReadTree}
 use Rattle.text_tree.proofs.Numbers.{numbered}
 use Rattle.text_tree.proofs.Lines.{lines_exactly}
@@ -120,7 +122,7 @@ module _ (t s : List ℕ) (place line : ℕ) (ns owns : List ℕ) where
   says : (x : Nodes) → planted ≡ x → ReadTreeSays t s place line ns owns (tree_answer x) (productions_after x ns) (owns_after x owns)
   says x e = rw e (refl, (refl, refl))
 
-  reads_from : {a : ReadTree} {ns' owns' : List ℕ} → ReadsTree t s place line ns owns a ns' owns' → ReadTreeSays t s place line ns owns a ns' owns'
+  reads_from : {a : Result ReadTree Misread} {ns' owns' : List ℕ} → ReadsTree t s place line ns owns a ns' owns' → ReadTreeSays t s place line ns owns a ns' owns'
   unfolding planting_at refusal_of
   reads_from (by1to5 {r} w) =
       says (bad r line) (rw ((refused_exactly t (number_of r) (number_low r)).1 w) (refused_nodes r (number_of r) line (fitted t line (length ns) (length owns) (tree_at s place line)) refl))

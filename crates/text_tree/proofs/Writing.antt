@@ -2,6 +2,7 @@
 use mathlib.Core.Path.{◌≡◌, refl, ap, sym, ◌∙◌}
 use mathlib.Core.List.{List, [], ◌∷◌, ◌++◌}
 use mathlib.Core.Logic.{⊎_elim}
+use Rattle.std.proofs.Common.{Err}
 use Prim.Native.Nat.{ℕ, zero, suc, ◌+◌, ◌*◌, ◌≤◌, ◌<◌, ◌^◌}
 use native.Mathlib.Omega.{arith}
 use native.Mathlib.Numerals.{add-one}
@@ -22,18 +23,17 @@ use Rattle.tree.proofs.Handed.{too_large, unequal}
 use Rattle.text_frame.specs.Text.{fields_of, text_of}
 use Rattle.text_frame.specs.declared.Frame.TheVariants.{Node, Change}
 use Rattle.text_frame.specs.declared.Change.TheVariants.{Load}
-use Rattle.text_frame.specs.declared.Written.TheVariants.{Refused}
 use Rattle.text_tree.specs.Text.{nodes_text, tree_text}
 use Rattle.text_tree.specs.Written.{refusal_of, written_of, buffer_after}
 use Rattle.text_tree.proofs.Numbers.{by_number}
 
 -- what is answered for a refusal, and what becomes of the buffer
-answer_by : (n room : ℕ) (text : List ℕ) → 0 < n → Refused (refusal_of n) ≡ written_of n room text
+answer_by : (n room : ℕ) (text : List ℕ) → 0 < n → Err (refusal_of n) ≡ written_of n room text
 answer_by zero room text h = absurd (omega arith)
 answer_by (suc n) room text h = refl
 
-pub refused_answer : (r : Refusal) (room : ℕ) (text : List ℕ) → Refused r ≡ written_of (number_of r) room text
-refused_answer r room text = ap Refused (sym (by_number r)) ∙ answer_by (number_of r) room text (number_low r)
+pub refused_answer : (r : Refusal) (room : ℕ) (text : List ℕ) → Err r ≡ written_of (number_of r) room text
+refused_answer r room text = ap Err (sym (by_number r)) ∙ answer_by (number_of r) room text (number_low r)
 
 buffer_by : (n : ℕ) (buffer text : List ℕ) → 0 < n → buffer ≡ buffer_after n buffer text
 buffer_by zero buffer text h = absurd (omega arith)

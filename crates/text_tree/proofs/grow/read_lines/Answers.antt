@@ -8,14 +8,14 @@ pub returns-in_default : goal.returns-in_default
 returns-in_default c =
     let a = c.args in
     let n = c.next_at-step in
-    load_stray a.text.now a.place a.line n.result n.ensures (no_change n.result.frame a.line _ c.in_default.not-Change) c.no_node.result c.no_node.ensures a.productions.now a.owns.now a.productions.now a.owns.now
+    load_stray a.text.now a.place a.line n.result n.ensures (no_change n.result.frame a.line _ c.in_default.not-Change) _ c.no_node.ensures a.productions.now a.owns.now a.productions.now a.owns.now
 
 pub returns-in_default-change : goal.returns-in_default-change
 returns-in_default-change c =
     let a = c.args in
     let n = c.next_at-step in
     let g = c.in-Change in
-    load_stray a.text.now a.place a.line n.result n.ensures (rw g.is (no_load g.change a.line _ c.in_default-change.not-Load)) c.no_node-in_default-change.result (rw g.is c.no_node-in_default-change.ensures) a.productions.now a.owns.now a.productions.now a.owns.now
+    load_stray a.text.now a.place a.line n.result n.ensures (rw g.is (no_load g.change a.line _ c.in_default-change.not-Load)) _ (rw g.is c.no_node-in_default-change.ensures) a.productions.now a.owns.now a.productions.now a.owns.now
 
 pub returns : goal.returns
 returns c =

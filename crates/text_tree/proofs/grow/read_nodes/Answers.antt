@@ -8,7 +8,7 @@ returns-in_default c =
     let l = c.loop-i in
     let a = c.args in
     let n = c.next_at-step in
-    onward_stop a.text.now a.count a.place a.line a.productions.now a.owns.now l.productions l.owns l.i l.at l.l l.invariant (omega arith) n.result n.ensures c.in_default.not-Node c.no_node.result c.no_node.ensures
+    onward_stop a.text.now a.count a.place a.line a.productions.now a.owns.now l.productions l.owns l.i l.at l.l l.invariant (omega arith) n.result n.ensures c.in_default.not-Node _ c.no_node.ensures
 
 pub loop-i-preserved : goal.loop-i-preserved
 loop-i-preserved c =

@@ -4,12 +4,12 @@ use lib.ListN.{length}
 use Rattle.text_tree.proofs.Planted.{table_sound, table_refused}
 use Rattle.text_tree.proofs.grow.read_tree.Goals as goal
 
-pub returns-in-Sound : goal.returns-in-Sound
-returns-in-Sound c =
+pub returns : goal.returns
+returns c =
     let a = c.args in
-    rw (table_sound a.table.now a.text.now a.place a.line (length a.productions.now) (length a.owns.now) (sym c.in-Sound.ensures)) c.read_judged.ensures
+    rw (table_sound a.table.now a.text.now a.place a.line (length a.productions.now) (length a.owns.now) (sym c.in_default.ensures)) c.read_judged.ensures
 
-pub returns-in-Refused : goal.returns-in-Refused
-returns-in-Refused c =
+pub returns-in-Err : goal.returns-in-Err
+returns-in-Err c =
     let a = c.args in
-    rw (table_refused a.table.now a.text.now a.place a.line (length a.productions.now) (length a.owns.now) c.in-Refused.r c.in-Refused.ensures) (refl, (refl, refl))
+    rw (table_refused a.table.now a.text.now a.place a.line (length a.productions.now) (length a.owns.now) c.in-Err.refusal c.in-Err.ensures) (refl, (refl, refl))
