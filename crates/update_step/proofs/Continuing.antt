@@ -1,19 +1,16 @@
 -- A loop of steps is the run. Assumes nothing.
 use mathlib.Core.Path.{◌≡◌, refl, sym, ap, ◌∙◌}
-use mathlib.Core.Bool.{Bool, true, false, true≢false}
-use mathlib.Core.List.{List, [], ◌∷◌}
+use mathlib.Core.Bool.{Bool}
+use mathlib.Core.List.{List}
 use Prim.Native.Nat.{ℕ, suc, ◌+◌, ◌-◌, ◌≤◌, ◌<◌}
 use native.Mathlib.Nat.{add-zero, add-suc, zero-add, suc-add}
 use native.Mathlib.Omega.{arith}
 use lib.ListN.{length}
-use types.Run.{OneOf, miss}
-use denote.Enum.Declared.{tag_of}
 use Rattle.climb.specs.System.{System}
 use Rattle.update.specs.declared.Record.{Record}
 use Rattle.update.specs.declared.Answer.{Answer}
-use Rattle.update.specs.declared.Answer.TheVariants.{Round, Done, Refused}
+use Rattle.update.specs.declared.Answer.TheVariants.{Round, Done}
 use Rattle.update.specs.declared.Run.TheVariants.{Paused, Finished}
-use Rattle.update.specs.contracts.Answer as A
 use Rattle.update.specs.Within.{WithinLimits}
 use Rattle.update.specs.Steps.{Outcome, round, done, step_of, RunMade, run_of}
 use Rattle.update.specs.Calls.{Said, refused, said, answer_says}
@@ -22,7 +19,7 @@ use Rattle.update.proofs.Within.{beyond_means}
 use Rattle.update_round.specs.Inner.Arranged.{Lent}
 use Rattle.update_step.specs.Inner.Says.{StepSays, RunSays}
 
--- ---- an answer that is no refusal
+-- ---- what is answered where nothing refuses
 
 outcome_of : Outcome → Said Outcome → Outcome
 outcome_of o (refused n) = o
@@ -32,14 +29,6 @@ outcome_of o (said p) = p
 said_once : {o p : Outcome} → said o ≡ said p → o ≡ p
 unfolding outcome_of
 said_once {o} {p} e = ap (outcome_of o) e
-
-is_refused : Said Outcome → Bool
-is_refused (refused n) = true
-is_refused (said o) = false
-
-never_refused : {n : ℕ} {o : Outcome} → refused n ≡ said o → ⊥
-unfolding is_refused
-never_refused e = true≢false (ap is_refused e)
 
 -- ---- j rounds, and then a
 
@@ -66,12 +55,11 @@ module _ (S : System) (R : List (List ℕ)) (b : List ℕ) (budget : ℕ) (r₀ 
       let e : round x y z t ≡ (step_of S R r b s).outcome = said_once u.answer in
       left_suc j r s l h ∙ rw (← e, ← u.next, ← u.sets, add-suc, suc-add)
 
-  -- an answer that is neither done nor a refusal is a round
+  -- an answer that is not done is a round
   pub left_on : (j : ℕ) (r : Record) (s : List ℕ) (a : Answer) (d : Record) (s' : List ℕ) → j < budget → Left j r s → StepSays (step_of S R r b s) a d s'
-      → OneOf (0 ∷ 2 ∷ []) (tag_of A.the_type a) → Left (suc j) d s'
+      → ((x y z : ℕ) → a ≡ Done x y z → ⊥) → Left (suc j) d s'
   left_on j r s (Round x y z t) d s' l h u k = left_round j r s d s' x y z t l h u
-  left_on j r s (Done x y z) d s' l h u k = absurd (miss (0 ∷ 2 ∷ []) 1 tt k)
-  left_on j r s (Refused q) d s' l h u k = absurd (never_refused u.answer)
+  left_on j r s (Done x y z) d s' l h u k = absurd (k x y z refl)
 
   pub left_done : (j : ℕ) (r : Record) (s : List ℕ) (a : Answer) (d : Record) (s' : List ℕ) (x y z : ℕ) → j < budget → Left j r s
       → StepSays (step_of S R r b s) a d s' → a ≡ Done x y z → RunSays (run_of S R b budget r₀ s₀) (Finished j x y z) d s'

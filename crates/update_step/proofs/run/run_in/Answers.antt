@@ -1,27 +1,15 @@
 -- `run_in`: what is left of the run falls round by round. Assumes nothing.
-use mathlib.Core.Path.{◌≡◌, refl}
-use mathlib.Core.List.{List, [], ◌∷◌}
-use mathlib.Core.Logic.{inl, inr}
+use mathlib.Core.Path.{refl}
+use mathlib.Core.List.{List}
 use Prim.Native.Nat.{ℕ, zero-le}
 use native.Mathlib.Numerals.{add-one}
 use native.Mathlib.Omega.{arith}
-use types.Run.{OneOf}
-use denote.Enum.Declared.{tag_of}
 use Rattle.climb.specs.System.{System}
 use Rattle.climb.specs.Inner.Wired.{wired}
-use Rattle.update.specs.declared.Answer.{Answer}
-use Rattle.update.specs.declared.Answer.TheVariants.{Round, Done, Refused}
-use Rattle.update.specs.contracts.Answer as A
 use Rattle.update_round.specs.Inner.Arranged.{circles_in}
 use Rattle.update_step.proofs.Continuing.{left_all, left_on, left_done, left_over, step_within_lem}
 use Rattle.update_step.proofs.run.run_in.Goals.{Start}
 use Rattle.update_step.proofs.run.run_in.Goals as goal
-
--- an answer that is not done is a round or a refusal
-no_done : (a : Answer) → ((x y z : ℕ) → a ≡ Done x y z → ⊥) → OneOf (0 ∷ 2 ∷ []) (tag_of A.the_type a)
-no_done (Round x y z t) h = inl refl
-no_done (Done x y z) h = absurd (h x y z refl)
-no_done (Refused q) h = inr refl
 
 abbrev S : Start → System
 S s = let g = s.args in wired g.n g.table.now g.owns.now g.a.now g.b.now g.left.now g.rule.now
@@ -51,7 +39,7 @@ loop-rounds-preserved c =
       step_within_lem (S s) (R s) l.work s.args.earlier.now l.sets _ _ _ l.invariant.1 (rw (← s.requires.circles.counted) s.requires.circles.few) u,
       omega arith,
       omega arith,
-      rw add-one (left_on (S s) (R s) s.args.earlier.now s.args.budget s.args.r s.args.sets.now l.rounds l.work l.sets _ _ _ t l.invariant.4 u (no_done _ c.in_default.not-Done)),
+      rw add-one (left_on (S s) (R s) s.args.earlier.now s.args.budget s.args.r s.args.sets.now l.rounds l.work l.sets _ _ _ t l.invariant.4 u c.in_default.not-Done),
     )
 
 pub returns : goal.returns
