@@ -63,6 +63,7 @@ pub fn judge_symbol(table: &[u64; 2657], s: usize) -> Result<(), Refusal>
     Ok(())
 }
 
+#[tactic(auto, using(refusal::proofs::Distinct::handed_number, table::proofs::Steps::stops, table::proofs::FirstLaws::scan_zero, table::proofs::FirstLaws::scan_step))]
 fn judge_symbols(table: &[u64; 2657]) -> Result<(), Refusal>
     requires { symbol_count table.now ≤ 32 }
     ensures { verdict_of result ≡ symbols_of table.now }
@@ -144,6 +145,7 @@ pub fn judge_equation(table: &[u64; 2657], p: usize, q: usize, k: usize) -> Resu
 }
 
 // The equations of one position of a production.
+#[tactic(auto, using(refusal::proofs::Distinct::handed_number, table::proofs::Steps::stops, table::proofs::FirstLaws::scan_zero, table::proofs::FirstLaws::scan_step))]
 fn judge_position(table: &[u64; 2657], p: usize, q: usize) -> Result<(), Refusal>
     requires p_bound { p < 64 }
     requires shaped { Shaped table.now p }
@@ -158,6 +160,7 @@ fn judge_position(table: &[u64; 2657], p: usize, q: usize) -> Result<(), Refusal
 }
 
 // All equations of a production.
+#[tactic(auto, using(refusal::proofs::Distinct::handed_number, table::proofs::Steps::stops, table::proofs::FirstLaws::scan_zero, table::proofs::FirstLaws::scan_step, table::proofs::FirstLaws::scan_last))]
 fn judge_equations(table: &[u64; 2657], p: usize) -> Result<(), Refusal>
     requires p_bound { p < 64 }
     requires shaped { Shaped table.now p }
@@ -180,6 +183,7 @@ fn judge_part(table: &[u64; 2657], p: usize) -> Result<(), Refusal>
     judge_equations(table, p)
 }
 
+#[tactic(auto, using(refusal::proofs::Distinct::handed_number, table::proofs::Steps::stops, table::proofs::FirstLaws::scan_zero, table::proofs::FirstLaws::scan_step))]
 fn judge_productions(table: &[u64; 2657]) -> Result<(), Refusal>
     requires { Symbols table.now }
     ensures { verdict_of result ≡ productions_of table.now }
@@ -192,6 +196,7 @@ fn judge_productions(table: &[u64; 2657]) -> Result<(), Refusal>
 }
 
 // The table: its frames in order.
+#[tactic(auto, using(refusal::proofs::Distinct::handed_number, table::proofs::Steps::or_stops, table::proofs::Parts::judge_parts))]
 pub fn judge_table(table: &[u64; 2657]) -> Result<(), Refusal>
     ensures { JudgeTableSays table.now result }
 {

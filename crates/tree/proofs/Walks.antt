@@ -1,12 +1,14 @@
 -- How a walk's answer follows from the answers of the walks that it calls. Assumes nothing.
 use Rattle.std.proofs.Common.{Result, Ok, Err}
+use Rattle.core.specs.Result.{IsErrAnd}
 use Prim.Native.Nat.{ℕ, suc, ◌+◌, ◌-◌, ◌≤◌, ◌<◌}
-use mathlib.Core.Path.{◌≡◌, refl, subst, ◌∙◌}
+use mathlib.Core.Path.{◌≡◌, refl, subst, sym, ◌∙◌}
 use mathlib.Core.List.{List, [], ◌∷◌, ◌++◌}
 use lib.ListN.{length, get_or, drop}
 use native.Mathlib.Nat.{le_refl, sub-zero}
 use native.Mathlib.Omega.{arith}
 use Rattle.refusal.specs.declared.Refusal.{Refusal}
+use Rattle.refusal.proofs.Distinct.{handed}
 use Rattle.table.specs.Words.{production_count, left_of, child_count, child_of, children_from, children}
 use Rattle.tree.specs.Tree.{judge_nodes}
 use Rattle.tree.proofs.Nodes.{judge_step, row_none, row_more}
@@ -16,6 +18,10 @@ module _ (t ns : List ℕ) (at : ℕ) where
   -- an answer that is known
   pub known : (least : ℕ) (ws : List ℕ) {w v : Result ℕ Refusal} → w ≡ v → Says t ns at least ws w → Says t ns at least ws v
   known least ws e h = subst (Says t ns at least ws) e h
+
+  -- a refusal that is handed on
+  pub handed_says : (least : ℕ) (ws : List ℕ) (w : Result ℕ Refusal) (r : Refusal) → IsErrAnd w (λ (x : Refusal). x ≡ r) → Says t ns at least ws (Err r) → Says t ns at least ws w
+  handed_says least ws w r e h = known least ws (sym (handed w r e)) h
 
   module _ (p k : ℕ) where
     -- the children from k on

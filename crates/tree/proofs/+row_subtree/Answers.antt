@@ -2,18 +2,19 @@
 use Rattle.std.proofs.Common.{◌∷◌, arith, ap}
 use Rattle.table.specs.Words.{left_of}
 use Rattle.tree.proofs.Nodes.{judge_short, judge_number, judge_wrong}
-use Rattle.tree.proofs.Walks.{row_ends, row_stops, row_goes, subtree_goes}
+use Rattle.tree.proofs.Walks.{row_ends, row_stops, row_goes, subtree_goes, handed_says}
 use Rattle.tree.proofs.+row_subtree.Goals as goal
 
 pub row-returns-then-child_count-child : goal.row-returns-then-child_count-child
 row-returns-then-child_count-child t c = row_ends c.args.table.now c.args.productions.now c.args.at c.args.production c.args.child c.requires.at_in_bounds (omega arith)
 
-pub row-returns-in-Behind : goal.row-returns-in-Behind
-row-returns-in-Behind t c =
-    row_goes c.args.table.now c.args.productions.now c.args.at c.args.production c.args.child c.child_of-symbol.result c.in-Behind.next c.child_of-symbol.ensures (omega arith) c.in-Behind.ensures c.row.result c.row.ensures
+pub row-returns : goal.row-returns
+row-returns t c =
+    row_goes c.args.table.now c.args.productions.now c.args.at c.args.production c.args.child c.child_of-symbol.result c.in_ok-next.next c.child_of-symbol.ensures (omega arith) c.in_ok-next.ensures c.row.result c.row.ensures
 
-pub row-returns-in-Wrong : goal.row-returns-in-Wrong
-row-returns-in-Wrong t c = row_stops c.args.table.now c.args.productions.now c.args.at c.args.production c.args.child c.child_of-symbol.result c.child_of-symbol.ensures (omega arith) c.in-Wrong.ensures
+pub row-returns-in_err-next : goal.row-returns-in_err-next
+row-returns-in_err-next t c =
+    handed_says c.args.table.now c.args.productions.now c.args.at c.args.at _ c.from_residual.result c.in_err-next.field-0.0 c.from_residual.ensures.1 (row_stops c.args.table.now c.args.productions.now c.args.at c.args.production c.args.child c.child_of-symbol.result c.child_of-symbol.ensures (omega arith) c.in_err-next.ensures)
 
 pub subtree-returns-then-productions-at : goal.subtree-returns-then-productions-at
 subtree-returns-then-productions-at t c = λ ss. judge_short c.args.table.now c.args.productions.now c.args.at c.args.symbol ss (omega arith)
