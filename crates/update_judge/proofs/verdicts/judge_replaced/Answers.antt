@@ -1,5 +1,6 @@
 -- The numbers of points and parts, then 21 of the tree that they would leave. Assumes nothing.
 use Rattle.std.proofs.Common.{◌≡◌, ℕ, List, length, refl, sym, ap, ◌∙◌, subst}
+use Rattle.refusal.proofs.Distinct.{handed_number}
 use Rattle.refusal.specs.Orders.{refusal_by}
 use Rattle.refusal.proofs.Orders.{stopped}
 use Rattle.tree.specs.declared.Cuts.{Cuts}
@@ -32,16 +33,16 @@ module _ (t ns : List ℕ) (points : Places) (cs : Cuts) (new new_owns : List �
       (record { judged = a.table; sound = left_sound t ns points cs new new_owns a z; few = left_few t ns points cs new new_owns a z })
 
 pub waives_then-requires-clause-fitting : goal.waives_then-requires-clause-fitting
-waives_then-requires-clause-fitting c = splicing_fits (splicing c.args.table.now c.args.tree.now c.args.points c.args.cuts c.args.new.now c.args.new_owns.now c.requires (sym c.in-Sound.ensures))
+waives_then-requires-clause-fitting c = splicing_fits (splicing c.args.table.now c.args.tree.now c.args.points c.args.cuts c.args.new.now c.args.new_owns.now c.requires (sym c.in_ok-judge_row.ensures))
 
 pub waives_then-requires-clause-held : goal.waives_then-requires-clause-held
-waives_then-requires-clause-held c = holds c.args.table.now c.args.tree.now c.args.points c.args.cuts c.args.new.now c.args.new_owns.now c.requires (sym c.in-Sound.ensures)
+waives_then-requires-clause-held c = holds c.args.table.now c.args.tree.now c.args.points c.args.cuts c.args.new.now c.args.new_owns.now c.requires (sym c.in_ok-judge_row.ensures)
 
 pub returns-then-waives_then : goal.returns-then-waives_then
-returns-then-waives_then c = last_waived (fit_order c.args.table.now c.args.tree.now (length c.args.tree.now) (handed_row (named_points c.args.points) c.args.new.now c.args.new_owns.now)) c.args.table.now (nodes_row c.args.table.now c.args.tree.now (handed_row (named_points c.args.points) c.args.new.now c.args.new_owns.now)) (sym c.in-Sound.ensures) (sym (ap (waives c.args.table.now) (built c.args.table.now c.args.tree.now c.args.points c.args.cuts c.args.new.now c.args.new_owns.now c.requires (sym c.in-Sound.ensures))) ∙ sym c.waives_then.ensures ∙ c.if-waives_then.true)
+returns-then-waives_then c = last_waived (fit_order c.args.table.now c.args.tree.now (length c.args.tree.now) (handed_row (named_points c.args.points) c.args.new.now c.args.new_owns.now)) c.args.table.now (nodes_row c.args.table.now c.args.tree.now (handed_row (named_points c.args.points) c.args.new.now c.args.new_owns.now)) (sym c.in_ok-judge_row.ensures) (sym (ap (waives c.args.table.now) (built c.args.table.now c.args.tree.now c.args.points c.args.cuts c.args.new.now c.args.new_owns.now c.requires (sym c.in_ok-judge_row.ensures))) ∙ sym c.waives_then.ensures ∙ c.if-waives_then.true)
 
-pub returns-else-waives_then : goal.returns-else-waives_then
-returns-else-waives_then c = last_free (fit_order c.args.table.now c.args.tree.now (length c.args.tree.now) (handed_row (named_points c.args.points) c.args.new.now c.args.new_owns.now)) c.args.table.now (nodes_row c.args.table.now c.args.tree.now (handed_row (named_points c.args.points) c.args.new.now c.args.new_owns.now)) (sym c.in-Sound.ensures) (sym (ap (waives c.args.table.now) (built c.args.table.now c.args.tree.now c.args.points c.args.cuts c.args.new.now c.args.new_owns.now c.requires (sym c.in-Sound.ensures))) ∙ sym c.waives_then.ensures ∙ c.if-waives_then.false)
+pub returns : goal.returns
+returns c = last_free (fit_order c.args.table.now c.args.tree.now (length c.args.tree.now) (handed_row (named_points c.args.points) c.args.new.now c.args.new_owns.now)) c.args.table.now (nodes_row c.args.table.now c.args.tree.now (handed_row (named_points c.args.points) c.args.new.now c.args.new_owns.now)) (sym c.in_ok-judge_row.ensures) (sym (ap (waives c.args.table.now) (built c.args.table.now c.args.tree.now c.args.points c.args.cuts c.args.new.now c.args.new_owns.now c.requires (sym c.in_ok-judge_row.ensures))) ∙ sym c.waives_then.ensures ∙ c.if-waives_then.false)
 
-pub returns-in-Refused : goal.returns-in-Refused
-returns-in-Refused c = stopped (fit_order c.args.table.now c.args.tree.now (length c.args.tree.now) (handed_row (named_points c.args.points) c.args.new.now c.args.new_owns.now)) (waiver_order c.args.table.now (nodes_row c.args.table.now c.args.tree.now (handed_row (named_points c.args.points) c.args.new.now c.args.new_owns.now))) c.in-Refused.r c.in-Refused.ensures
+pub returns-in_err-judge_row : goal.returns-in_err-judge_row
+returns-in_err-judge_row c = handed_number _ _ c.from_residual.ensures.1 _ (stopped (fit_order c.args.table.now c.args.tree.now (length c.args.tree.now) (handed_row (named_points c.args.points) c.args.new.now c.args.new_owns.now)) (waiver_order c.args.table.now (nodes_row c.args.table.now c.args.tree.now (handed_row (named_points c.args.points) c.args.new.now c.args.new_owns.now))) c.in_err-judge_row.field-0.0 c.in_err-judge_row.ensures)
