@@ -6,7 +6,7 @@ use native.Mathlib.Omega.{arith}
 use lib.ListN.{length}
 use Rattle.refusal.specs.Numbers.{number_of}
 use Rattle.refusal.specs.declared.Refusal.{Refusal}
-use Rattle.refusal.specs.declared.Verdict.TheVariants.{Sound, Refused}
+use Rattle.std.specs.Prelude.{Ok, Err}
 use Rattle.refusal.proofs.Distinct.{number_low}
 use Rattle.tree.specs.declared.Point.{Point}
 use Rattle.tree.specs.declared.Places.{Places}
@@ -42,12 +42,12 @@ pub by : {A : Type 0} (q : Refusal) (n : ℕ) (r : Record) (m : Memory) (l : Lef
 by q n r m l e = rw (← e) (left_refused (number_of q) r m l (number_low q))
 
 module _ (t : List ℕ) (m : Memory) (r : Record) (ns owns : List ℕ) where
-  pub load_refused : (q : Refusal) → number_of q ≡ load_refusal t m r ns owns → begun (record { verdict = Refused q; «record» = r }) m ≡ load_call t m r ns owns
+  pub load_refused : (q : Refusal) → number_of q ≡ load_refusal t m r ns owns → begun r (Err q) m ≡ load_call t m r ns owns
   unfolding load_call
   load_refused q e = by q (load_refusal t m r ns owns) r m (record { answer = said is_open; next = opened Load (length ns) (load_point (length ns) ∷ []); memory = loaded m ns owns }) e
 
   pub load_carried : (places : Places) (next : Record) (m' : Memory) → load_refusal t m r ns owns ≡ 0 → places ≡ placed (load_point (length ns) ∷ []) → next ≡ opened_at Load (length ns) places → m' ≡ loaded m ns owns
-      → begun (record { verdict = Sound; «record» = next }) m' ≡ load_call t m r ns owns
+      → begun r (Ok next) m' ≡ load_call t m r ns owns
   unfolding load_call opened
   load_carried places next m' z d e f =
       (λ i. record { answer = said is_open; next = (e ∙ ap (opened_at Load (length ns)) d) i; memory = f i })
@@ -63,15 +63,15 @@ module _ (t : List ℕ) (m : Memory) (r : Record) (points : Places) (new new_own
   abbrev replacement : Left (Said Opened)
   replacement = record { answer = said is_open; next = opened Replacement (nodes_left t m r ps) (points_row t ns ps); memory = replaced_row t m r.nodes ps }
 
-  pub points_refused : (q : Refusal) → number_of q ≡ points_refusal t m r ps → begun (record { verdict = Refused q; «record» = r }) m ≡ points_call t m r ps
+  pub points_refused : (q : Refusal) → number_of q ≡ points_refusal t m r ps → begun r (Err q) m ≡ points_call t m r ps
   unfolding points_call
   points_refused q e = by q (points_refusal t m r ps) r m replacement e
 
   -- by what is judged before the points are looked at, and by what comes before their subtrees are counted
-  pub aim_refused : (q : Refusal) → number_of q ≡ refusal_by (aim_order t m r (bare_row (named_points points))) → begun (record { verdict = Refused q; «record» = r }) m ≡ points_call t m r ps
+  pub aim_refused : (q : Refusal) → number_of q ≡ refusal_by (aim_order t m r (bare_row (named_points points))) → begun r (Err q) m ≡ points_call t m r ps
   aim_refused q e = points_refused q (aim_stopped t m r ps q (e ∙ aim_same (named_points points) new new_owns t m r))
 
-  pub named_refused : Holding t m r → (q : Refusal) → number_of q ≡ refusal_by (named_order r (bare_row (named_points points))) → begun (record { verdict = Refused q; «record» = r }) m ≡ points_call t m r ps
+  pub named_refused : Holding t m r → (q : Refusal) → number_of q ≡ refusal_by (named_order r (bare_row (named_points points))) → begun r (Err q) m ≡ points_call t m r ps
   named_refused k q e = points_refused q (named_stopped t m r ps k q (e ∙ named_same (named_points points) new new_owns r))
 
   -- behind those: what the tree says
@@ -81,7 +81,7 @@ module _ (t : List ℕ) (m : Memory) (r : Record) (points : Places) (new new_own
         named_past t m r ps k (sym (named_same (named_points points) new new_owns r) ∙ named_none t m r (bare_row (named_points points)) n)
         ∙ ap (λ (i : ℕ). refusal_by (fit_order t ns i ps ++ waiver_order t (nodes_row t ns ps))) (sym l)
 
-    pub row_refused : (q : Refusal) → number_of q ≡ refusal_by (last_order t ns ps) → begun (record { verdict = Refused q; «record» = r }) m ≡ points_call t m r ps
+    pub row_refused : (q : Refusal) → number_of q ≡ refusal_by (last_order t ns ps) → begun r (Err q) m ≡ points_call t m r ps
     row_refused q e = points_refused q (e ∙ sym refusal)
 
     module _ (cs : Cuts) (a : Aimed t ns points cs) (z : refusal_by (last_order t ns ps) ≡ 0) where
@@ -107,7 +107,7 @@ module _ (t : List ℕ) (m : Memory) (r : Record) (points : Places) (new new_own
 
       pub row_carried : (count : ℕ) (places : Places) (next : Record) (m' : Memory) → count ≡ length (nodes_row t ns (cut_row (named_points points) new new_owns))
           → places ≡ placed (shifted 0 0 (named_cuts cs)) → next ≡ opened_at Replacement count places → m' ≡ replaced_row t m r.nodes (cut_row (named_points points) new new_owns)
-          → begun (record { verdict = Sound; «record» = next }) m' ≡ points_call t m r ps
+          → begun r (Ok next) m' ≡ points_call t m r ps
       unfolding points_call
       row_carried count places next m' e f g h =
           (λ i. record { answer = said is_open; next = opens_at count places next (counts count e) f g i; memory = (h ∙ ap (replaced_row t m r.nodes) (sym cut)) i })
