@@ -4,6 +4,7 @@ use mathlib.Core.Path.{◌≡◌, sym, ◌∙◌}
 use mathlib.Core.Bool.{true}
 use mathlib.Core.List.{List}
 use mathlib.Core.Logic.{inl}
+use Rattle.std.proofs.Common.{Ok, Err}
 use Prim.Native.Nat.{ℕ, zero, suc, ◌≤◌, ◌<◌}
 use native.Mathlib.Omega.{arith}
 use borrow.Author.Tests.{eqb-true}
@@ -23,7 +24,7 @@ use Rattle.text_frame.specs.declared.Expected.TheVariants.{AtHeader, AtSymbol, A
 use Rattle.text_frame.specs.Text.{type_of}
 use Rattle.text_table.specs.Read.{type_at, taken_at}
 use Rattle.text_table.specs.Reading.{stop, read_on}
-use Rattle.text_table.specs.declared.Taken.TheVariants.{Next, Stopped}
+use Rattle.text_frame.specs.Calls.{misread}
 use Rattle.text_table.proofs.Taking.{no_type}
 use Rattle.text_table.proofs.Sofar.{led}
 use Rattle.text_table.proofs.Readings.{read_out, read_turn}
@@ -48,15 +49,15 @@ some_type (AtProduction p) = omega arith
 some_type (AtEquation p q k) = omega arith
 some_type Ended = omega arith
 
-pub over_taken : (t : List ℕ) (x : Expected) (line : ℕ) → taken_at t x Over line ≡ Stopped why.Frame line
+pub over_taken : (t : List ℕ) (x : Expected) (line : ℕ) → taken_at t x Over line ≡ Err (misread why.Frame line)
 unfolding taken_at
 over_taken t x line = rw (no_type x 0 (inl (lit≤ tt)))
 
-pub broken_taken : (t : List ℕ) (x : Expected) (line : ℕ) → taken_at t x (Refused why.Line line) line ≡ Stopped why.Line line
+pub broken_taken : (t : List ℕ) (x : Expected) (line : ℕ) → taken_at t x (Refused why.Line line) line ≡ Err (misread why.Line line)
 unfolding taken_at
 broken_taken t x line = rw (no_type x 0 (inl (lit≤ tt)))
 
-pub taken_type : (t : List ℕ) (x : Expected) (f : Frame) (line : ℕ) (y : Expected) → taken_at t x f line ≡ Next y → 0 < type_of f
+pub taken_type : (t : List ℕ) (x : Expected) (f : Frame) (line : ℕ) (y : Expected) → taken_at t x f line ≡ Ok y → 0 < type_of f
 taken_type t x f line y h = let e = eqb-true (type_of f) (type_at x) (led t x f line y h).type in omega (arith, some_type x)
 
 -- a table that the text ends in, with any number of turns left

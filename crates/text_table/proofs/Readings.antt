@@ -2,6 +2,7 @@
 use mathlib.Core.Path.{◌≡◌, refl, ap, sym, ◌∙◌}
 use mathlib.Core.Bool.{Bool, true, false, cond}
 use mathlib.Core.List.{List}
+use Rattle.std.proofs.Common.{Result, Ok, Err}
 use Prim.Native.Nat.{ℕ, zero, suc, ◌+◌, ◌*◌, ◌-◌, ◌≤◌, ◌<◌}
 use native.Mathlib.Omega.{arith}
 use native.Mathlib.Nat.{zero-add}
@@ -15,14 +16,14 @@ use Rattle.text_frame.specs.Frames.{frame_at}
 use Rattle.text_frame.specs.Walk.{is_on}
 use Rattle.text_frame.specs.Text.{type_of}
 use Rattle.text_table.specs.Read.{type_at, word_of, constant_of, store, words_after, taken_at}
-use Rattle.text_table.specs.Reading.{Reading, done, stop, after, read_on, reading_at, Ends}
+use Rattle.text_table.specs.Reading.{Reading, done, stop, after, read_on, reading_at, table_read, Ends}
 use Rattle.text_frame.specs.declared.Frame.{Frame}
 use Rattle.text_frame.specs.declared.Step.{Step}
 use Rattle.text_frame.specs.declared.Expected.{Expected}
 use Rattle.text_frame.specs.declared.Expected.TheVariants.{AtHeader, AtSymbol, AtProduction, AtEquation, Ended}
-use Rattle.text_table.specs.declared.Taken.TheVariants.{Next, Stopped}
+use Rattle.text_frame.specs.Calls.{misread}
+use Rattle.text_frame.specs.declared.Misread.{Misread}
 use Rattle.text_table.specs.declared.ReadTable.{ReadTable}
-use Rattle.text_table.specs.declared.ReadTable.TheVariants.{Read, Refused}
 
 -- one word of a copy
 pub copy_next : (d s : List ℕ) (i : ℕ) → i < length d → i < length s → set (paste d 0 s i) i (get_or s i 0) ≡ paste d 0 s (i + 1)
@@ -62,16 +63,16 @@ module _ (s t : List ℕ) (x : Expected) (place line : ℕ) (on : is_on x ≡ tr
   read_turn n = rw on
 
   module _ (left : ℕ) (some : 1 ≤ left) (r : Step) (found : r ≡ frame_at s place line) where
-    pub read_goes : (y : Expected) → taken_at t x r.frame line ≡ Next y → read_on left t x s place line ≡ read_on (left - 1) (words_after t x r.frame) y s r.place r.line
+    pub read_goes : (y : Expected) → taken_at t x r.frame line ≡ Ok y → read_on left t x s place line ≡ read_on (left - 1) (words_after t x r.frame) y s r.place r.line
     read_goes y h =
         let n : left ≡ suc (left - 1) = omega arith in
-        let g : taken_at t x (frame_at s place line).frame line ≡ Next y = ap (λ (z : Step). taken_at t x z.frame line) (sym found) ∙ h in
+        let g : taken_at t x (frame_at s place line).frame line ≡ Ok y = ap (λ (z : Step). taken_at t x z.frame line) (sym found) ∙ h in
         ap (λ (m : ℕ). read_on m t x s place line) n ∙ read_turn (left - 1) ∙ rw g (ap (λ (z : Step). read_on (left - 1) (words_after t x z.frame) y s z.place z.line) (sym found))
 
-    pub read_stops : (f : Refusal) (l : ℕ) → taken_at t x r.frame line ≡ Stopped f l → read_on left t x s place line ≡ stop f l
+    pub read_stops : (f : Refusal) (l : ℕ) → taken_at t x r.frame line ≡ Err (misread f l) → read_on left t x s place line ≡ stop f l
     read_stops f l h =
         let n : left ≡ suc (left - 1) = omega arith in
-        let g : taken_at t x (frame_at s place line).frame line ≡ Stopped f l = ap (λ (z : Step). taken_at t x z.frame line) (sym found) ∙ h in
+        let g : taken_at t x (frame_at s place line).frame line ≡ Err (misread f l) = ap (λ (z : Step). taken_at t x z.frame line) (sym found) ∙ h in
         ap (λ (m : ℕ). read_on m t x s place line) n ∙ read_turn (left - 1) ∙ rw g
 
 pub read_ends : (n : ℕ) (s t : List ℕ) (x : Expected) (place line : ℕ) → is_on x ≡ false → read_on n t x s place line ≡ done t place line
@@ -80,10 +81,21 @@ read_ends zero s t x place line e = rw e
 read_ends (suc n) s t x place line e = rw e
 
 -- what an answer says of a reading
-pub read_done : (a : Reading) (r : ReadTable) (w : List ℕ) (place line : ℕ) → Ends a r w → r ≡ Read place line → a ≡ done w place line
-read_done (done t p l) r w place line e h = let q : r ≡ Read p l = e.0 in let d : w ≡ t = e.1 in cc
+pub read_done : (a : Reading) (r : Result ReadTable Misread) (w : List ℕ) (place line : ℕ) → Ends a r w → r ≡ Ok (table_read place line) → a ≡ done w place line
+read_done (done t p l) r w place line e h =
+    let q : r ≡ Ok (table_read p l) = e.0 in
+    let d : w ≡ t = e.1 in
+    let k : table_read p l ≡ table_read place line = cc in
+    let u : p ≡ place = ap (λ (x : ReadTable). x.place) k in
+    let v : l ≡ line = ap (λ (x : ReadTable). x.line) k in
+    cc
 read_done (stop f l) r w place line e h = absurd (let z : ◌≡◌ {A = ℕ} 0 1 = cc in omega arith)
 
-pub read_stopped : (a : Reading) (r : ReadTable) (w : List ℕ) (f : Refusal) (line : ℕ) → Ends a r w → r ≡ Refused f line → a ≡ stop f line
-read_stopped (done t p l) r w f line e h = absurd (let q : r ≡ Read p l = e.0 in let z : ◌≡◌ {A = ℕ} 0 1 = cc in omega arith)
-read_stopped (stop g l) r w f line e h = let q : r ≡ Refused g l = e in cc
+pub read_stopped : (a : Reading) (r : Result ReadTable Misread) (w : List ℕ) (f : Refusal) (line : ℕ) → Ends a r w → r ≡ Err (misread f line) → a ≡ stop f line
+read_stopped (done t p l) r w f line e h = absurd (let q : r ≡ Ok (table_read p l) = e.0 in let z : ◌≡◌ {A = ℕ} 0 1 = cc in omega arith)
+read_stopped (stop g l) r w f line e h =
+    let q : r ≡ Err (misread g l) = e in
+    let k : misread g l ≡ misread f line = cc in
+    let u : g ≡ f = ap (λ (x : Misread). x.refusal) k in
+    let v : l ≡ line = ap (λ (x : Misread). x.line) k in
+    cc

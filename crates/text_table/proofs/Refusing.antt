@@ -3,6 +3,7 @@ use mathlib.Core.Path.{◌≡◌, refl, ap, sym, ◌∙◌}
 use mathlib.Core.Bool.{Bool, true, false, true≢false}
 use mathlib.Core.List.{List}
 use mathlib.Core.Logic.{inl, ⊎_elim}
+use Rattle.std.proofs.Common.{Result, Err}
 use Prim.Native.Nat.{ℕ, zero, suc, ◌+◌, ◌≤◌, ◌<◌}
 use native.Mathlib.Omega.{arith}
 use borrow.Author.Tests.{eq-eqb, ne_eqb, le-leb, lt-leb}
@@ -35,8 +36,8 @@ use Rattle.text_frame.specs.Text.{type_of}
 use Rattle.text_table.specs.Read.{type_at, words_after, strange_at, judged_at, taken_at}
 use Rattle.text_table.specs.Reading.{Reading, done, stop, after, read_on, reading_at, table_answer, memory_after}
 use Rattle.text_table.specs.Refused.{WriteTableExactly, storing, ReadTo, begin, next, TableRead, all, by13, by14, by1to5, TableExactly, ReadsTable, stopped, by15, read, ReadTableExactly}
-use Rattle.text_table.specs.declared.Taken.{Taken}
-use Rattle.text_table.specs.declared.Taken.TheVariants.{Stopped}
+use Rattle.text_frame.specs.Calls.{misread}
+use Rattle.text_frame.specs.declared.Misread.{Misread}
 use Rattle.text_table.specs.declared.ReadTable.{ReadTable}
 use Rattle.text_table.proofs.Taking.{no_type, never_ended, stopped_by, other_taken}
 use Rattle.text_table.proofs.Readings.{read_turn, read_out, read_ends}
@@ -62,14 +63,14 @@ stray_type x was-refused = no_type x 0 (inl (lit≤ tt))
 stray_type x ended = no_type x 0 (inl (lit≤ tt))
 stray_type x (strange w h) = ne_eqb _ (type_at x) (λ e. h (sym (type_of_lem w) ∙ e))
 
-grouped_stops : {line type : ℕ} {f : Frame} → Grouped f type → strange_at f line ≡ Stopped why.Frame line
+grouped_stops : {line type : ℕ} {f : Frame} → Grouped f type → strange_at f line ≡ misread why.Frame line
 grouped_stops (a_rule r) = refl
 grouped_stops (a_node p o) = refl
 grouped_stops (a_point r n) = refl
 grouped_stops (a_change c) = refl
 grouped_stops a_dump = refl
 
-stray_stops : {line expected : ℕ} {f : Frame} → Stray line expected f → strange_at f line ≡ Stopped why.Frame line
+stray_stops : {line expected : ℕ} {f : Frame} → Stray line expected f → strange_at f line ≡ misread why.Frame line
 stray_stops was-refused = refl
 stray_stops ended = refl
 stray_stops (strange w h) = grouped_stops (grouped w)
@@ -86,11 +87,11 @@ module _ (s t : List ℕ) (x : Expected) (at l : ℕ) where
   abbrev found : Frame
   found = (frame_at s at l).frame
 
-  taken_bad : NoLine s at → taken_at t x found l ≡ Stopped why.Line l
+  taken_bad : NoLine s at → taken_at t x found l ≡ Err (misread why.Line l)
   taken_bad w = let e = ap (λ (r : Step). r.frame) (found_bad s at l w) in rw e (sym (other_taken t x _ l (no_type x 0 (inl (lit≤ tt)))))
 
-  taken_stray : Astray s at (type_at x) → taken_at t x found l ≡ Stopped why.Frame l
-  taken_stray w = let k = found_stray s at l (type_at x) w in sym (other_taken t x found l (stray_type x k)) ∙ stray_stops k
+  taken_stray : Astray s at (type_at x) → taken_at t x found l ≡ Err (misread why.Frame l)
+  taken_stray w = let k = found_stray s at l (type_at x) w in sym (other_taken t x found l (stray_type x k)) ∙ ap Err (stray_stops k)
 
   module _ (f : Frame) (n : ℕ) (w : IsFrame s at f (type_at x) n) where
     there_is : frame_at s at l ≡ record { frame = f; place = at + (n + 1); line = line_after l }
@@ -119,7 +120,7 @@ module _ (s t : List ℕ) (x : Expected) (at l : ℕ) where
     reads_by m r e = reads_there m ∙ rw e (by_refusal r)
       where
         by_refusal : (r : Refusal) → after (judged_at (number_of r) (next_of (storing t x f) x) l) (λ y. read_on m (storing t x f) y s (at + (n + 1)) (line_after l)) ≡ stop r l
-        by_refusal r = ap (λ (q : Taken). after q (λ y. read_on m (storing t x f) y s (at + (n + 1)) (line_after l))) (sym (stopped_by r (next_of (storing t x f) x) l))
+        by_refusal r = ap (λ (q : Result Expected Misread). after q (λ y. read_on m (storing t x f) y s (at + (n + 1)) (line_after l))) (sym (stopped_by r (next_of (storing t x f) x) l))
 
   stops_bad : (m : ℕ) → is_on x ≡ true → NoLine s at → read_on (suc m) t x s at l ≡ stop why.Line l
   stops_bad m o w = let e = taken_bad w in read_turn s t x at l o m ∙ rw e
@@ -220,7 +221,7 @@ module _ (s : List ℕ) (place line : ℕ) (words : List ℕ) where
       (λ (h : 2657 ≤ length words). rw (le-leb 2657 (length words) h) (read w h)) (lt_or_ge (length words) 2657)
   answers (stop r l) w = stopped w
 
-  answers_from : {a : ReadTable} {words' : List ℕ} → ReadsTable s place line words a words' → (a ≡ table_answer (reading_at s place line) (length words) line) × (words' ≡ memory_after (reading_at s place line) words)
+  answers_from : {a : Result ReadTable Misread} {words' : List ℕ} → ReadsTable s place line words a words' → (a ≡ table_answer (reading_at s place line) (length words) line) × (words' ≡ memory_after (reading_at s place line) words)
   answers_from (stopped w) = rw (← (table_from s place line w)) (refl, refl)
   answers_from (by15 w h) = let k = lt-leb 2657 (length words) h in rw (← (table_from s place line w)) (rw k (refl, refl))
   answers_from (read w h) = let k = le-leb 2657 (length words) h in rw (← (table_from s place line w)) (rw k (refl, refl))

@@ -3,6 +3,7 @@ use mathlib.Core.Path.{◌≡◌, refl, ap, sym, ◌∙◌}
 use mathlib.Core.List.{List, [], ◌∷◌, ◌++◌, append_assoc, append-nil}
 use mathlib.Core.Bool.{Bool, true, false}
 use mathlib.Core.Logic.{inl, inr}
+use Rattle.std.proofs.Common.{Ok}
 use Prim.Native.Nat.{ℕ, zero, suc, ◌+◌, ◌*◌, ◌-◌, ◌≤◌, ◌<◌}
 use native.Mathlib.Omega.{arith}
 use lib.ListN.{length, get_or, replicate, length-append, length-replicate}
@@ -27,7 +28,6 @@ use Rattle.text_frame.specs.declared.Frame as text
 use Rattle.text_frame.specs.declared.Step.{Step}
 use Rattle.text_frame.specs.declared.Expected.{Expected}
 use Rattle.text_frame.specs.declared.Expected.TheVariants.{AtHeader, AtSymbol, AtProduction, AtEquation, Ended}
-use Rattle.text_table.specs.declared.Taken.TheVariants.{Next}
 use Rattle.text_table.proofs.Order.{Valid, rest_of, text_next}
 use Rattle.text_table.proofs.Writing.{ready_of, still_valid, rest_text, rest_all}
 use Rattle.text_table.proofs.Taking.{sound_taken}
@@ -78,13 +78,13 @@ module _ (t : List ℕ) (j : judge_table t ≡ 0) (fit : AllWords t) (u : List �
     abbrev f : text.Frame
     f = shown t (entry_of x)
 
-    taken : (line : ℕ) → taken_at w x f line ≡ Next (next_of t x)
+    taken : (line : ℕ) → taken_at w x f line ≡ Ok (next_of t x)
     taken line =
         let ty = type_is t x o in
         let d : storing t w x ≡ words_after w x f = sym (stored w x f ty) in
         let vu : Valid u x = valid_same t u j same x v in
         let n : next_of u x ≡ next_of (storing t w x) x = next_alike u (storing t w x) x (ready_of u ju x vu) (λ m b. sym (through m b)) in
-        sym (sound_taken w x f line (storing t w x) ty d (judged_early (storing t w x) u x ju vu o through)) ∙ ap Next (sym n ∙ sym (next_same t u j same x v))
+        sym (sound_taken w x f line (storing t w x) ty d (judged_early (storing t w x) u x ju vu o through)) ∙ ap Ok (sym n ∙ sym (next_same t u j same x v))
 
     module _ (pre : List ℕ) (line : ℕ) where
       abbrev more : List ℕ

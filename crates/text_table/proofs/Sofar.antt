@@ -3,6 +3,7 @@ use mathlib.Core.Path.{◌≡◌, refl, ap, sym, ◌∙◌}
 use mathlib.Core.Bool.{Bool, true, false, cond}
 use mathlib.Core.List.{List}
 use mathlib.Core.Logic.{◌⊎◌, inl, inr, ⊎_elim}
+use Rattle.std.proofs.Common.{Ok, Err}
 use Prim.Native.Nat.{ℕ, zero, suc, ◌+◌, ◌*◌, ◌-◌, ◌≤◌, ◌<◌}
 use native.Mathlib.Omega.{arith}
 use borrow.Author.Tests.{lt-ltb, le-ltb}
@@ -24,7 +25,6 @@ use Rattle.text_frame.specs.declared.Frame as text
 use Rattle.text_frame.specs.declared.Frame.TheVariants.{Rule, Node, Point, Change, Dump, Refused, Over}
 use Rattle.text_frame.specs.declared.Expected.{Expected}
 use Rattle.text_frame.specs.declared.Expected.TheVariants.{AtHeader, AtSymbol, AtProduction, AtEquation, Ended}
-use Rattle.text_table.specs.declared.Taken.TheVariants.{Next}
 use Rattle.text_table.proofs.Taking.{never_ended}
 
 -- u has the words of t but those from a to b - 1
@@ -234,30 +234,21 @@ awaits_so t (AtEquation p q k) f =
 awaits_so t Ended f = tt
 
 -- a frame that leads on has the expected type and is not refused
-never_next : (f : text.Frame) (line : ℕ) (y : Expected) {A : Type 0} → strange_at f line ≡ Next y → A
-never_next (Rule a) line y e = absurd (let n : ◌≡◌ {A = ℕ} 0 1 = cc in omega arith)
-never_next (Node a b) line y e = absurd (let n : ◌≡◌ {A = ℕ} 0 1 = cc in omega arith)
-never_next (Point a b) line y e = absurd (let n : ◌≡◌ {A = ℕ} 0 1 = cc in omega arith)
-never_next (Change a) line y e = absurd (let n : ◌≡◌ {A = ℕ} 0 1 = cc in omega arith)
-never_next Dump line y e = absurd (let n : ◌≡◌ {A = ℕ} 0 1 = cc in omega arith)
-never_next (Refused a b) line y e = absurd (let n : ◌≡◌ {A = ℕ} 0 1 = cc in omega arith)
-never_next Over line y e = absurd (let n : ◌≡◌ {A = ℕ} 0 1 = cc in omega arith)
-
 pub record Led (t : List ℕ) (x : Expected) (f : text.Frame) (y : Expected) : Type 0 where
   pub type : eqb (type_of f) (type_at x) ≡ true
   pub sound : refusal_at (words_after t x f) (entry_of x) ≡ 0
   pub next : y ≡ next_of (words_after t x f) x
 
 module _ (t : List ℕ) (x : Expected) (f : text.Frame) (line : ℕ) (y : Expected) where
-  by_number : (n : ℕ) → refusal_at (words_after t x f) (entry_of x) ≡ n → eqb (type_of f) (type_at x) ≡ true → judged_at n (next_of (words_after t x f) x) line ≡ Next y → Led t x f y
+  by_number : (n : ℕ) → refusal_at (words_after t x f) (entry_of x) ≡ n → eqb (type_of f) (type_at x) ≡ true → judged_at n (next_of (words_after t x f) x) line ≡ Ok y → Led t x f y
   by_number zero z e h = record { type = e; sound = z; next = cc }
   by_number (suc n) z e h = absurd (let m : ◌≡◌ {A = ℕ} 0 1 = cc in omega arith)
 
-  by_type : (b : Bool) → eqb (type_of f) (type_at x) ≡ b → cond b (judged_at (refusal_at (words_after t x f) (entry_of x)) (next_of (words_after t x f) x) line) (strange_at f line) ≡ Next y → Led t x f y
+  by_type : (b : Bool) → eqb (type_of f) (type_at x) ≡ b → cond b (judged_at (refusal_at (words_after t x f) (entry_of x)) (next_of (words_after t x f) x) line) (Err (strange_at f line)) ≡ Ok y → Led t x f y
   by_type true e h = by_number (refusal_at (words_after t x f) (entry_of x)) refl e h
-  by_type false e h = never_next f line y h
+  by_type false e h = absurd (let m : ◌≡◌ {A = ℕ} 0 1 = cc in omega arith)
 
-  pub led : taken_at t x f line ≡ Next y → Led t x f y
+  pub led : taken_at t x f line ≡ Ok y → Led t x f y
   unfolding taken_at
   led h = by_type (eqb (type_of f) (type_at x)) refl h
 

@@ -2,6 +2,7 @@
 use mathlib.Core.Path.{◌≡◌, refl, ap, sym, ◌∙◌}
 use mathlib.Core.List.{List, ◌++◌}
 use mathlib.Core.Bool.{Bool, true, false, cond}
+use Rattle.std.proofs.Common.{Result, Ok, Err}
 use Prim.Native.Nat.{ℕ, zero, suc, ◌+◌}
 use native.Mathlib.Omega.{arith}
 use lib.Dec.{eqb}
@@ -21,8 +22,7 @@ use Rattle.text_table.specs.Laws.{TableForthAll}
 use Rattle.text_frame.specs.declared.Frame.{Frame}
 use Rattle.text_frame.specs.declared.Expected.{Expected}
 use Rattle.text_frame.specs.declared.Expected.TheVariants.{AtHeader, AtSymbol, AtProduction, AtEquation, Ended}
-use Rattle.text_table.specs.declared.Taken.{Taken}
-use Rattle.text_table.specs.declared.Taken.TheVariants.{Next, Stopped}
+use Rattle.text_frame.specs.declared.Misread.{Misread}
 use Rattle.text_table.proofs.Order.{rest_of, text_next}
 use Rattle.text_table.proofs.Writing.{rest_text, rest_all}
 use Rattle.text_table.proofs.Sofar.{led, stored, goes}
@@ -83,7 +83,7 @@ module _ (t : List ℕ) (x : Expected) (s : List ℕ) (place line : ℕ) (u : Li
         size = r.size ∙ store_length t x (word_of f) (constant_of f);
       }
 
-  one_frame : (y : Expected) → taken_at t x f line ≡ Next y → Rest (words_after t x f) y s (frame_at s place line).place u end → Rest t x s place u end
+  one_frame : (y : Expected) → taken_at t x f line ≡ Ok y → Rest (words_after t x f) y s (frame_at s place line).place u end → Rest t x s place u end
   one_frame y h r =
       let l = led t x f line y h in
       let d : words_after t x f ≡ t' = stored t x f l.type in
@@ -94,11 +94,11 @@ module _ (t : List ℕ) (x : Expected) (s : List ℕ) (place line : ℕ) (u : Li
       same_end : (y z : Expected) → y ≡ z → Rest t' y s (frame_at s place line).place u end → Rest t' z s (frame_at s place line).place u end
       same_end y z e r = rw (sym e) r
 
-  by_taken : (n next : ℕ) (k : Taken) → taken_at t x f line ≡ k → after k (λ y. read_on n (words_after t x f) y s (frame_at s place line).place (frame_at s place line).line) ≡ done u end next
-      → ((y : Expected) → taken_at t x f line ≡ Next y → read_on n (words_after t x f) y s (frame_at s place line).place (frame_at s place line).line ≡ done u end next → Rest (words_after t x f) y s (frame_at s place line).place u end)
+  by_taken : (n next : ℕ) (k : Result Expected Misread) → taken_at t x f line ≡ k → after k (λ y. read_on n (words_after t x f) y s (frame_at s place line).place (frame_at s place line).line) ≡ done u end next
+      → ((y : Expected) → taken_at t x f line ≡ Ok y → read_on n (words_after t x f) y s (frame_at s place line).place (frame_at s place line).line ≡ done u end next → Rest (words_after t x f) y s (frame_at s place line).place u end)
       → Rest t x s place u end
-  by_taken n next (Next y) h e again = one_frame y h (again y h e)
-  by_taken n next (Stopped r l) h e again = absurd (let z : ◌≡◌ {A = ℕ} 0 1 = cc in omega arith)
+  by_taken n next (Ok y) h e again = one_frame y h (again y h e)
+  by_taken n next (Err r) h e again = absurd (let z : ◌≡◌ {A = ℕ} 0 1 = cc in omega arith)
 
 at_end : (t : List ℕ) (x : Expected) (s : List ℕ) (place line : ℕ) (u : List ℕ) (end next : ℕ) → is_on x ≡ false → Sofar t x → done t place line ≡ done u end next → Rest t x s place u end
 at_end t x s place line u end next o so e =

@@ -1,8 +1,10 @@
 -- One frame taken: what the words become, and what is answered. Assumes nothing.
 use mathlib.Core.Path.{◌≡◌, refl, ap, sym, ◌∙◌}
-use mathlib.Core.Bool.{true, false}
+use mathlib.Core.Bool.{true, false, true≢false}
 use mathlib.Core.List.{List}
 use mathlib.Core.Logic.{◌⊎◌, inl, inr, ⊎_elim}
+use Rattle.std.proofs.Common.{Result, Ok, Err}
+use Rattle.std.specs.Result.{MatchResult, IsErrAnd, is_ok}
 use Prim.Native.Nat.{ℕ, zero, suc, ◌+◌, ◌*◌, ◌≤◌, ◌<◌}
 use native.Mathlib.Omega.{arith}
 use types.Run.{OneOf}
@@ -11,7 +13,7 @@ use borrow.Author.Tests.{ne_eqb}
 use lib.Dec.{eqb, lit<, lit≤}
 use lib.ListN.{get_or, set}
 use lib.Seq.{get_or-set_other}
-use Rattle.refusal.specs.Numbers.{number_of}
+use Rattle.refusal.specs.Numbers.{number_of, verdict_of}
 use Rattle.refusal.specs.declared.Refusal.{Refusal}
 use Rattle.refusal.specs.declared.Refusal.TheVariants as why
 use Rattle.table.specs.Words.{symbol_count, production_count, synthesized, inherited, left_of, child_count, child_of, symbol_at, defined}
@@ -30,7 +32,8 @@ use Rattle.text_frame.specs.declared.Rule.TheVariants.{Header, Symbol, Productio
 use Rattle.text_frame.specs.declared.Rule as rule
 use Rattle.text_frame.specs.declared.Expected.{Expected}
 use Rattle.text_frame.specs.declared.Expected.TheVariants.{AtHeader, AtSymbol, AtProduction, AtEquation, Ended}
-use Rattle.text_table.specs.declared.Taken.TheVariants.{Next, Stopped}
+use Rattle.text_frame.specs.Calls.{misread}
+use Rattle.text_frame.specs.declared.Misread.{Misread}
 use Rattle.refusal.proofs.Distinct.{number_low}
 use Rattle.text_tree.proofs.Numbers.{by_number}
 use Rattle.text_frame.proofs.Exactly.{rule_type_lem, change_type_lem}
@@ -91,7 +94,7 @@ no_rule Dump k = inr (lit< tt, lit< tt)
 no_rule (Refused a b) k = inl (lit≤ tt)
 no_rule Over k = inl (lit≤ tt)
 
-pub not_refused : (f : Frame) (line : ℕ) → ((r : Refusal) (l : ℕ) → f ≡ Refused r l → ⊥) → Stopped why.Frame line ≡ strange_at f line
+pub not_refused : (f : Frame) (line : ℕ) → ((r : Refusal) (l : ℕ) → f ≡ Refused r l → ⊥) → misread why.Frame line ≡ strange_at f line
 not_refused (Rule a) line k = refl
 not_refused (Node a b) line k = refl
 not_refused (Point a b) line k = refl
@@ -109,16 +112,30 @@ never_ended Dump = refl
 never_ended (Refused a b) = refl
 never_ended Over = refl
 
-judged_by : (n : ℕ) (next : Expected) (line : ℕ) → 0 < n → Stopped (refusal_of n) line ≡ judged_at n next line
+judged_by : (n : ℕ) (next : Expected) (line : ℕ) → 0 < n → Err (misread (refusal_of n) line) ≡ judged_at n next line
 judged_by zero next line h = absurd (omega arith)
 judged_by (suc n) next line h = refl
 
-pub stopped_by : (r : Refusal) (next : Expected) (line : ℕ) → Stopped r line ≡ judged_at (number_of r) next line
-stopped_by r next line = ap (λ (q : Refusal). Stopped q line) (sym (by_number r)) ∙ judged_by (number_of r) next line (number_low r)
+pub stopped_by : (r : Refusal) (next : Expected) (line : ℕ) → Err (misread r line) ≡ judged_at (number_of r) next line
+stopped_by r next line = ap (λ (q : Refusal). Err (misread q line)) (sym (by_number r)) ∙ judged_by (number_of r) next line (number_low r)
+
+-- a judgement's refusal, named at a line
+pub record Named (n line : ℕ) (m : Misread) : Type 0 where
+  pub refusal : Refusal
+  pub is : m ≡ misread refusal line
+  pub by : number_of refusal ≡ n
+
+pub named : (v : Result (Unit {0}) Refusal) {n line : ℕ} {m : Misread} → MatchResult v (λ x. ◌≡◌ {A = Result (Unit {0}) Misread} (Err m) (Ok x)) (λ e. m ≡ misread e line) → verdict_of v ≡ n → Named n line m
+named (Ok x) w h = absurd (let z : ◌≡◌ {A = ℕ} 0 1 = cc in omega arith)
+named (Err e) w h = record { refusal = e; is = w; by = h }
+
+pub passed : (v : Result (Unit {0}) Refusal) {n : ℕ} → true ≡ is_ok v → verdict_of v ≡ n → n ≡ 0
+passed (Ok x) w h = sym h
+passed (Err e) w h = absurd (true≢false w)
 
 -- what is answered
 module _ (t : List ℕ) (x : Expected) (f : Frame) (line : ℕ) where
-  pub other_taken : eqb (type_of f) (type_at x) ≡ false → strange_at f line ≡ taken_at t x f line
+  pub other_taken : eqb (type_of f) (type_at x) ≡ false → Err (strange_at f line) ≡ taken_at t x f line
   unfolding taken_at
   other_taken e = rw e
 
@@ -126,11 +143,11 @@ module _ (t : List ℕ) (x : Expected) (f : Frame) (line : ℕ) where
   unfolding words_after
   other_words e = rw e
 
-  pub sound_taken : (u : List ℕ) → eqb (type_of f) (type_at x) ≡ true → u ≡ words_after t x f → refusal_at u (entry_of x) ≡ 0 → Next (next_of u x) ≡ taken_at t x f line
+  pub sound_taken : (u : List ℕ) → eqb (type_of f) (type_at x) ≡ true → u ≡ words_after t x f → refusal_at u (entry_of x) ≡ 0 → Ok (next_of u x) ≡ taken_at t x f line
   unfolding taken_at
   sound_taken u e d z = rw (e, ← d, z)
 
-  pub stopped_taken : (u : List ℕ) (r : Refusal) → eqb (type_of f) (type_at x) ≡ true → u ≡ words_after t x f → number_of r ≡ refusal_at u (entry_of x) → Stopped r line ≡ taken_at t x f line
+  pub stopped_taken : (u : List ℕ) (r : Refusal) → eqb (type_of f) (type_at x) ≡ true → u ≡ words_after t x f → number_of r ≡ refusal_at u (entry_of x) → Err (misread r line) ≡ taken_at t x f line
   unfolding taken_at
   stopped_taken u r e d n = rw (e, ← d, ← n) (stopped_by r (next_of u x) line)
 

@@ -11,15 +11,16 @@ use Rattle.text_table.specs.Read.{type_at, words_after}
 use Rattle.text_frame.specs.declared.Frame.TheVariants.{Rule}
 use Rattle.text_frame.specs.declared.Rule.TheVariants.{Equation}
 use Rattle.text_frame.specs.declared.Expected.TheVariants.{AtEquation}
-use Rattle.text_table.specs.declared.Taken.TheVariants.{Next}
-use Rattle.text_table.proofs.Taking.{no_equation, other_taken, other_words, sound_taken, stopped_taken, equation_words, low_kept, shaped_kept, count_kept}
+use Rattle.std.proofs.Common.{Ok, Err, rules}
+use Rattle.std.proofs.lemmas.Result.{MatchResult-weaker, err_from_is_err_and}
+use Rattle.text_table.proofs.Taking.{named, passed, no_equation, other_taken, other_words, sound_taken, stopped_taken, equation_words, low_kept, shaped_kept, count_kept}
 use Rattle.text_table.proofs.read.take_equation.Goals as goal
 
 pub returns-in_default : goal.returns-in_default
 returns-in_default c =
     let a = c.args in
     let e = no_equation a.rule c.in_default.not-Equation in
-    (c.misplaced.ensures ∙ other_taken a.table.now (AtEquation a.p a.q a.k) (Rule a.rule) a.line e, other_words a.table.now (AtEquation a.p a.q a.k) (Rule a.rule) a.line e)
+    (ap Err c.misplaced.ensures ∙ other_taken a.table.now (AtEquation a.p a.q a.k) (Rule a.rule) a.line e, other_words a.table.now (AtEquation a.p a.q a.k) (Rule a.rule) a.line e)
 
 pub judge_equation-requires-clause-shaped : goal.judge_equation-requires-clause-shaped
 judge_equation-requires-clause-shaped c =
@@ -40,22 +41,24 @@ next_of-requires c =
     let n = count_kept a.table.now u a.p s.0 k in
     (s.0, (shaped_kept a.table.now u a.p s.0 k s.1.0, (omega (arith, s.1.1), s.1.1.1)))
 
-pub returns-in-Sound : goal.returns-in-Sound
-returns-in-Sound c =
+pub returns : goal.returns
+returns c =
     let a = c.args in
     let g = c.in-Equation in
     let e : a.rule ≡ Equation g.op g.a g.b g.c = g.is in
     let u : List ℕ = set (set a.table.now (97 + (2 * (20 * a.p + (4 * a.q + a.k)))) c.join-2.result) (98 + (2 * (20 * a.p + (4 * a.q + a.k)))) g.c in
     let d : u ≡ words_after a.table.now (AtEquation a.p a.q a.k) (Rule a.rule) = rw e (equation_words a.table.now a.p a.q a.k g.op g.a g.b g.c c.wide.result c.join.result c.join-2.result c.wide.ensures.0 c.join.ensures c.join-2.ensures) in
     let y : eqb (type_of (Rule a.rule)) (type_at (AtEquation a.p a.q a.k)) ≡ true = rw e in
-    (ap Next c.next_of.ensures ∙ sound_taken a.table.now (AtEquation a.p a.q a.k) (Rule a.rule) a.line u y d (sym c.in-Sound.ensures), d)
+    (ap Ok c.next_of.ensures ∙ sound_taken a.table.now (AtEquation a.p a.q a.k) (Rule a.rule) a.line u y d (passed _ c.in_ok-map_err.ensures.variant c.judge_equation.ensures), d)
 
-pub returns-in-Refused : goal.returns-in-Refused
-returns-in-Refused c =
+pub returns-in_err-map_err : goal.returns-in_err-map_err
+returns-in_err-map_err c =
     let a = c.args in
     let g = c.in-Equation in
     let e : a.rule ≡ Equation g.op g.a g.b g.c = g.is in
     let u : List ℕ = set (set a.table.now (97 + (2 * (20 * a.p + (4 * a.q + a.k)))) c.join-2.result) (98 + (2 * (20 * a.p + (4 * a.q + a.k)))) g.c in
     let d : u ≡ words_after a.table.now (AtEquation a.p a.q a.k) (Rule a.rule) = rw e (equation_words a.table.now a.p a.q a.k g.op g.a g.b g.c c.wide.result c.join.result c.join-2.result c.wide.ensures.0 c.join.ensures c.join-2.ensures) in
     let y : eqb (type_of (Rule a.rule)) (type_at (AtEquation a.p a.q a.k)) ≡ true = rw e in
-    (stopped_taken a.table.now (AtEquation a.p a.q a.k) (Rule a.rule) a.line u c.in-Refused.r y d c.in-Refused.ensures, d)
+    let p = err_from_is_err_and c.from_residual.result c.from_residual.ensures.1 in
+    let k = named _ {line = a.line} (MatchResult-weaker c.judge_equation.result c.in_err-map_err.ensures.cases (λ x p. p) (λ e p. search rules)) c.judge_equation.ensures in
+    rw (p.1, p.2, k.is) (stopped_taken a.table.now (AtEquation a.p a.q a.k) (Rule a.rule) a.line u k.refusal y d k.by, d)

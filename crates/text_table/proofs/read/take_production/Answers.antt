@@ -10,35 +10,38 @@ use Rattle.text_table.specs.Read.{type_at, words_after}
 use Rattle.text_frame.specs.declared.Frame.TheVariants.{Rule}
 use Rattle.text_frame.specs.declared.Rule.TheVariants.{Production}
 use Rattle.text_frame.specs.declared.Expected.TheVariants.{AtProduction}
-use Rattle.text_table.specs.declared.Taken.TheVariants.{Next}
-use Rattle.text_table.proofs.Taking.{no_production, other_taken, other_words, sound_taken, stopped_taken, production_words, shaped_now}
+use Rattle.std.proofs.Common.{Ok, Err, rules}
+use Rattle.std.proofs.lemmas.Result.{MatchResult-weaker, err_from_is_err_and}
+use Rattle.text_table.proofs.Taking.{named, passed, no_production, other_taken, other_words, sound_taken, stopped_taken, production_words, shaped_now}
 use Rattle.text_table.proofs.read.take_production.Goals as goal
 
 pub returns-in_default : goal.returns-in_default
 returns-in_default c =
     let a = c.args in
     let e = no_production a.rule c.in_default.not-Production in
-    (c.misplaced.ensures ∙ other_taken a.table.now (AtProduction a.p) (Rule a.rule) a.line e, other_words a.table.now (AtProduction a.p) (Rule a.rule) a.line e)
+    (ap Err c.misplaced.ensures ∙ other_taken a.table.now (AtProduction a.p) (Rule a.rule) a.line e, other_words a.table.now (AtProduction a.p) (Rule a.rule) a.line e)
 
 pub next_of-requires : goal.next_of-requires
-next_of-requires c = (c.requires.1.0, shaped_now c.args.table.now c.args.p c.join-3.result c.requires.1.1 (sym c.in-Sound.ensures))
+next_of-requires c = (c.requires.1.0, shaped_now c.args.table.now c.args.p c.join-3.result c.requires.1.1 (passed _ c.in_ok-map_err.ensures.variant c.judge_production.ensures))
 
-pub returns-in-Sound : goal.returns-in-Sound
-returns-in-Sound c =
+pub returns : goal.returns
+returns c =
     let a = c.args in
     let g = c.in-Production in
     let e : a.rule ≡ Production g.left g.count g.children = g.is in
     let u : List ℕ = set a.table.now (33 + a.p) c.join-3.result in
     let d : u ≡ words_after a.table.now (AtProduction a.p) (Rule a.rule) = rw e (production_words a.table.now a.p g.left g.count g.children c.join.result c.join-2.result c.join-3.result c.join.ensures c.join-2.ensures c.join-3.ensures) in
     let y : eqb (type_of (Rule a.rule)) (type_at (AtProduction a.p)) ≡ true = rw e in
-    (ap Next c.next_of.ensures ∙ sound_taken a.table.now (AtProduction a.p) (Rule a.rule) a.line u y d (sym c.in-Sound.ensures), d)
+    (ap Ok c.next_of.ensures ∙ sound_taken a.table.now (AtProduction a.p) (Rule a.rule) a.line u y d (passed _ c.in_ok-map_err.ensures.variant c.judge_production.ensures), d)
 
-pub returns-in-Refused : goal.returns-in-Refused
-returns-in-Refused c =
+pub returns-in_err-map_err : goal.returns-in_err-map_err
+returns-in_err-map_err c =
     let a = c.args in
     let g = c.in-Production in
     let e : a.rule ≡ Production g.left g.count g.children = g.is in
     let u : List ℕ = set a.table.now (33 + a.p) c.join-3.result in
     let d : u ≡ words_after a.table.now (AtProduction a.p) (Rule a.rule) = rw e (production_words a.table.now a.p g.left g.count g.children c.join.result c.join-2.result c.join-3.result c.join.ensures c.join-2.ensures c.join-3.ensures) in
     let y : eqb (type_of (Rule a.rule)) (type_at (AtProduction a.p)) ≡ true = rw e in
-    (stopped_taken a.table.now (AtProduction a.p) (Rule a.rule) a.line u c.in-Refused.r y d c.in-Refused.ensures, d)
+    let p = err_from_is_err_and c.from_residual.result c.from_residual.ensures.1 in
+    let k = named _ {line = a.line} (MatchResult-weaker c.judge_production.result c.in_err-map_err.ensures.cases (λ x p. p) (λ e p. search rules)) c.judge_production.ensures in
+    rw (p.1, p.2, k.is) (stopped_taken a.table.now (AtProduction a.p) (Rule a.rule) a.line u k.refusal y d k.by, d)

@@ -8,7 +8,8 @@ use Rattle.refusal.specs.declared.Refusal.TheVariants as why
 use Rattle.text_frame.specs.Walk.{is_on}
 use Rattle.text_table.specs.Read.{taken_at}
 use Rattle.text_table.specs.Reading.{done, stop, read_on, reading_at}
-use Rattle.text_table.specs.declared.Taken.TheVariants.{Next, Stopped}
+use Rattle.std.proofs.Common.{Ok, Err}
+use Rattle.std.proofs.lemmas.Result.{err_from_is_err_and}
 use Rattle.text_table.proofs.Sofar.{goes, awaits_so}
 use Rattle.text_table.proofs.Readings.{words_length, reading_starts, read_out, read_goes, read_stops, read_ends}
 use Rattle.text_table.proofs.whole.read_words.Goals as goal
@@ -36,8 +37,8 @@ loop-x-preserved c =
     let k : 1 ≤ l.left = omega arith in
     let n = c.next_at-step in
     let f = c.take_frame in
-    let y = c.in-Next.y in
-    let e : taken_at l.words l.x n.result.frame l.l ≡ Next y = sym f.ensures.0 ∙ c.in-Next.is in
+    let y = c.in_ok-x.x in
+    let e : taken_at l.words l.x n.result.frame l.l ≡ Ok y = sym f.ensures.0 ∙ c.in_ok-x.was in
     rw f.ensures.1 (
       words_length l.words l.x n.result.frame ∙ l.invariant.0,
       (
@@ -46,8 +47,8 @@ loop-x-preserved c =
       ),
     )
 
-pub returns-in-Stopped : goal.returns-in-Stopped
-returns-in-Stopped c =
+pub returns-in_err-x : goal.returns-in_err-x
+returns-in_err-x c =
     let l = c.loop-x in
     let a = c.args in
     let s = a.text.now in
@@ -56,10 +57,11 @@ returns-in-Stopped c =
     let k : 1 ≤ l.left = omega arith in
     let n = c.next_at-step in
     let f = c.take_frame in
-    let y = c.in-Stopped in
-    let e : taken_at l.words l.x n.result.frame l.l ≡ Stopped y.refusal y.bad = sym f.ensures.0 ∙ y.is in
-    let d : reading_at s a.place a.line ≡ stop y.refusal y.bad = go ∙ read_stops s l.words l.x l.at l.l on l.left k n.result n.ensures y.refusal y.bad e in
-    (ap length f.ensures.1 ∙ words_length l.words l.x n.result.frame ∙ l.invariant.0, rw d refl)
+    let y = c.in_err-x.field-0.0 in
+    let p = err_from_is_err_and c.from_residual.result c.from_residual.ensures.1 in
+    let e : taken_at l.words l.x n.result.frame l.l ≡ Err y = sym f.ensures.0 ∙ c.in_err-x.was in
+    let d : reading_at s a.place a.line ≡ stop y.refusal y.line = go ∙ read_stops s l.words l.x l.at l.l on l.left k n.result n.ensures y.refusal y.line e in
+    (ap length f.ensures.1 ∙ words_length l.words l.x n.result.frame ∙ l.invariant.0, rw d (p.1 ∙ ap Err p.2))
 
 pub returns : goal.returns
 returns c =
