@@ -41,31 +41,15 @@ pub fn is_narrow(
 ) -> bool
     ensures { Tests (not result) (Wide words.now window.now parts.now part_owns.now (lent held.now held_owns.now sets.now earlier.now) out.now) }
 {
-    if words.len() < WORDS {
-        return true;
-    }
-    if window.len() < AHEAD {
-        return true;
-    }
-    if parts.len() < PARTS {
-        return true;
-    }
-    if part_owns.len() < PART_OWNS {
-        return true;
-    }
-    if held.len() < Record::NODES {
-        return true;
-    }
-    if held_owns.len() < Record::NODES {
-        return true;
-    }
-    if sets.len() < Record::SETS {
-        return true;
-    }
-    if earlier.len() < Record::SETS {
-        return true;
-    }
-    out.len() < OUT
+    words.len() < WORDS
+        || window.len() < AHEAD
+        || parts.len() < PARTS
+        || part_owns.len() < PART_OWNS
+        || held.len() < Record::NODES
+        || held_owns.len() < Record::NODES
+        || sets.len() < Record::SETS
+        || earlier.len() < Record::SETS
+        || out.len() < OUT
 }
 
 // Whether the begun line has room and no end yet.
@@ -73,17 +57,7 @@ pub fn is_begun(window: &[u8], begun: usize) -> bool
     requires { 29 ≤ length window.now }
     ensures { Tests result ((begun ≤ 28) × Begun (take begun window.now)) }
 {
-    if LONGEST < begun {
-        return false;
-    }
-    let mut i: usize = 0;
-    while i < begun {
-        if window[i] == LF {
-            return false;
-        }
-        i += 1;
-    }
-    true
+    begun <= LONGEST && !window[..begun].contains(&LF)
 }
 
 // The same frame of a table is expected.

@@ -6,7 +6,7 @@ use Prim.Native.Nat.{ℕ, suc, ◌-◌, ◌<◌}
 use native.Mathlib.Omega.{arith}
 use Rattle.refusal.specs.Numbers.{number_of}
 use Rattle.refusal.specs.declared.Refusal.{Refusal}
-use Rattle.refusal.proofs.Distinct.{number_low}
+use Rattle.refusal.proofs.Distinct.{number_low, handed_number}
 use Rattle.text_frame.specs.Walk.{next_of, is_on}
 use Rattle.text_frame.specs.declared.Expected.{Expected}
 use Rattle.text_table.proofs.Sofar.{awaits_so}
@@ -44,15 +44,15 @@ pub judge_at-requires : goal.judge_at-requires
 judge_at-requires c = let l = c.loop-still in awaits_so c.args.table.now l.x l.invariant.so
 
 pub next_of-x-requires : goal.next_of-x-requires
-next_of-x-requires c = let l = c.loop-still in ready_so c.args.table.now l.x l.invariant.so (frame_none _ l.x (sym c.in-Sound.ensures)).1
+next_of-x-requires c = let l = c.loop-still in ready_so c.args.table.now l.x l.invariant.so (frame_none _ l.x (sym c.in_ok-judge_at.ensures)).1
 
 pub loop-still-preserved : goal.loop-still-preserved
 loop-still-preserved c =
     let l = c.loop-still in
-    rw c.next_of-x.ensures (passes c.args.table.now c.args.expected l.x l.still l.invariant (omega arith) _ c.is_same.ensures c.if-is_same.false (sym c.in-Sound.ensures))
+    rw c.next_of-x.ensures (passes c.args.table.now c.args.expected l.x l.still l.invariant (omega arith) _ c.is_same.ensures c.if-is_same.false (sym c.in_ok-judge_at.ensures))
 
-pub returns-in-Refused : goal.returns-in-Refused
-returns-in-Refused c = let l = c.loop-still in stops c.args.table.now c.args.expected l.x l.still l.invariant (omega arith) _ c.is_same.ensures c.if-is_same.false c.in-Refused.r c.in-Refused.ensures
+pub returns-in_err-judge_at : goal.returns-in_err-judge_at
+returns-in_err-judge_at c = let l = c.loop-still in handed_number _ _ c.from_residual.ensures.1 _ (stops c.args.table.now c.args.expected l.x l.still l.invariant (omega arith) _ c.is_same.ensures c.if-is_same.false c.in_err-judge_at.field-0.0 c.in_err-judge_at.ensures)
 
 pub returns : goal.returns
 returns c = let l = c.loop-still in sym (l.invariant.same ∙ walk_out c.args.table.now l.x c.args.expected l.still (omega arith))
