@@ -60,47 +60,8 @@ pub fn is_begun(window: &[u8], begun: usize) -> bool
     begun <= LONGEST && !window[..begun].contains(&LF)
 }
 
-// The same frame of a table is expected.
-fn is_same(a: Expected, b: Expected) -> bool
-    ensures { Tests result ((a ≡ b) × (is_on a ≡ true)) }
-{
-    match a {
-        Expected::AtHeader => {
-            if let Expected::AtHeader = b {
-                return true;
-            }
-            false
-        }
-        Expected::AtSymbol(s) => {
-            if let Expected::AtSymbol(s2) = b {
-                return s == s2;
-            }
-            false
-        }
-        Expected::AtProduction(p) => {
-            if let Expected::AtProduction(p2) = b {
-                return p == p2;
-            }
-            false
-        }
-        Expected::AtEquation(p, q, k) => {
-            if let Expected::AtEquation(p2, q2, k2) = b {
-                if p != p2 {
-                    return false;
-                }
-                if q != q2 {
-                    return false;
-                }
-                return k == k2;
-            }
-            false
-        }
-        Expected::Ended => false,
-    }
-}
-
 // The judgement of one frame of a table.
-fn judge_at(table: &[u64; 2657], expected: Expected) -> Result<(), Refusal>
+fn judge_at(table: &[u64; WORDS], expected: Expected) -> Result<(), Refusal>
     requires { Awaits table.now expected }
     ensures { verdict_of result ≡ frame_refusal table.now expected }
 {
@@ -114,39 +75,32 @@ fn judge_at(table: &[u64; 2657], expected: Expected) -> Result<(), Refusal>
 }
 
 // The frames of a table before the one that is expected: 1 to 5 at the first that is refused, 11 where no walk comes to it.
-fn judge_so_far(table: &[u64; 2657], expected: Expected) -> Result<(), Refusal>
+fn judge_so_far(table: &[u64; WORDS], expected: Expected) -> Result<(), Refusal>
     ensures { verdict_of result ≡ sofar_refusal table.now expected }
 {
     let mut x = Expected::AtHeader;
-    let mut still: usize = WORDS;
-    while 0 < still {
-        if is_same(x, expected) {
+    for _ in 0..WORDS {
+        if x == expected && x != Expected::Ended {
             return Ok(());
         }
         judge_at(table, x)?;
         x = next_of(table, x);
-        still -= 1;
     }
     Err(Refusal::Fields)
 }
 
 // 11: whether no lines name so many points with so many nodes.
+#[tactic(auto, unfolding(crate::specs::Refusals::misnamed))]
 fn is_misnamed(count: usize, taken: usize, part_owns: &[u64]) -> bool
     requires { owns_kept ≤ length part_owns.now }
     ensures { result ≡ misnamed count taken part_owns.now }
 {
-    if count <= taken {
-        return true;
-    }
-    if POINTS < count {
-        return true;
-    }
-    NODES * taken < announced_in(part_owns, taken)
+    count <= taken || POINTS < count || NODES * taken < announced_in(part_owns, taken)
 }
 
 // The held tree, if there is one.
 fn judge_kept(
-    table: &[u64; 2657],
+    table: &[u64; WORDS],
     record: Record,
     held: &[u8],
     held_owns: &[u64],
@@ -164,7 +118,7 @@ fn judge_kept(
 
 // By what is waited for.
 pub fn judge_state(
-    table: &[u64; 2657],
+    table: &[u64; WORDS],
     state: State,
     window: &[u8],
     part_owns: &[u64],

@@ -29,11 +29,10 @@ pub struct State {
 pub fn start() -> State
     ensures { StartSays result }
 {
-    let record = Record::empty();
     State {
         awaited: Awaited::Table(Expected::AtHeader),
         begun: 0,
         line: 1,
-        record: record,
+        record: Record::empty(),
     }
 }
