@@ -6,6 +6,7 @@ use Prim.Native.Nat.{ℕ, ◌<◌}
 use native.Mathlib.Decide.{dec_lt}
 use native.Mathlib.Omega.{arith}
 use borrow.Author.Tests.{ltb-true}
+use Rattle.std.specs.Prelude.{Ok, Err}
 use lib.Dec.{ltb, eqb}
 use lib.ListN.{length, get_or, get_or-eq_default}
 use Rattle.refusal.specs.Numbers.{number_of}
@@ -14,10 +15,8 @@ use Rattle.circles.specs.Ranked.{circle_at, member}
 use Rattle.climb.specs.System.{System}
 use Rattle.climb.specs.Inner.Wired.{wired}
 use Rattle.update.specs.declared.Record.{Record}
-use Rattle.update.specs.declared.Answer.{Answer}
-use Rattle.update.specs.declared.Answer.TheVariants.{Refused as StepRefused}
+use Rattle.update_step.specs.declared.step.Stepped.{Stepped}
 use Rattle.update.specs.declared.Run.{Run}
-use Rattle.update.specs.declared.Run.TheVariants.{Refused as RunRefused}
 use Rattle.update.specs.Memories.{Memory, nodes_of, owns_of}
 use Rattle.update.specs.Refusals.{step_refusal}
 use Rattle.update.specs.Steps.{step_of, run_of}
@@ -33,11 +32,11 @@ use Rattle.update_judge.proofs.Parts.{and_first}
 use Rattle.engine.proofs.Alike.{step_same, run_same}
 
 module _ (t : List ℕ) (m : Memory) (r : Record) where
-  pub step_refused : (q : Refusal) → number_of q ≡ step_refusal t m r → stepped (StepRefused q) r m ≡ step_call t m r
+  pub step_refused : (q : Refusal) → number_of q ≡ step_refusal t m r → stepped r (Err q) m ≡ step_call t m r
   unfolding step_call
   step_refused q e = by q (step_refusal t m r) r m (step_left m (step_of (system_of t m r) (circles_of t m r) r m.earlier m.sets)) e
 
-  pub run_refused : (budget : ℕ) (q : Refusal) → number_of q ≡ step_refusal t m r → ran (RunRefused q) r m ≡ run_call t m r budget
+  pub run_refused : (budget : ℕ) (q : Refusal) → number_of q ≡ step_refusal t m r → ran (Err q) r m ≡ run_call t m r budget
   unfolding run_call
   run_refused budget q e = by q (step_refusal t m r) r m (run_left m (run_of (system_of t m r) (circles_of t m r) m.earlier budget r m.sets)) e
 
@@ -65,16 +64,16 @@ module _ (t : List ℕ) (m : Memory) (r : Record) where
         run_same W (system_of t m r) h.alike (circles_in n a b) inside bound m.earlier budget r m.sets
         ∙ ap (λ (R : List (List ℕ)). run_of (system_of t m r) R m.earlier budget r m.sets) h.ranks
 
-    pub step_carried : (answer : Answer) (next : Record) (s : List ℕ) → StepSays (step_of W (circles_in n a b) r m.earlier m.sets) answer next s
-        → stepped answer next (with_sets m s) ≡ step_call t m r
+    pub step_carried : (d : Stepped) (s : List ℕ) → StepSays (step_of W (circles_in n a b) r m.earlier m.sets) d.answer d.«record» s
+        → stepped r (Ok d) (with_sets m s) ≡ step_call t m r
     unfolding step_call
-    step_carried answer next s p =
+    step_carried d s p =
         (λ j. record { answer = p.answer j; next = p.next j; memory = with_sets m (p.sets j) })
         ∙ ap (step_left m) made
         ∙ left_carried (step_refusal t m r) r m (step_left m (step_of (system_of t m r) (circles_of t m r) r m.earlier m.sets)) (step_none t m r k)
 
     pub run_carried : (budget : ℕ) (answer : Run) (next : Record) (s : List ℕ) → RunSays (run_of W (circles_in n a b) m.earlier budget r m.sets) answer next s
-        → ran answer next (with_sets m s) ≡ run_call t m r budget
+        → ran (Ok answer) next (with_sets m s) ≡ run_call t m r budget
     unfolding run_call
     run_carried budget answer next s p =
         (λ j. record { answer = p.answer j; next = p.next j; memory = with_sets m (p.sets j) })

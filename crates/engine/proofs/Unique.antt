@@ -1,11 +1,11 @@
 -- What an answer says leads back to the answer, so no second answer, record or memory fits a call's statement. Assumes nothing.
+use Rattle.std.specs.Prelude.{Result, Ok, Err}
 use mathlib.Core.Path.{◌≡◌, refl, ap}
 use mathlib.Core.List.{List}
 use Prim.Native.Nat.{ℕ}
 use Rattle.refusal.specs.Numbers.{number_of}
 use Rattle.refusal.specs.Only.{Only, After}
-use Rattle.refusal.specs.declared.Verdict.{Verdict}
-use Rattle.refusal.specs.declared.Verdict.TheVariants.{Sound, Refused}
+use Rattle.refusal.specs.declared.Refusal.{Refusal}
 use Rattle.refusal.proofs.Distinct.{named, number_back}
 use Rattle.refusal.proofs.Fitting.{only_equal, only_said, only_verdict}
 use Rattle.sets.specs.Members.{members_of, count_of}
@@ -15,82 +15,88 @@ use Rattle.tree.specs.Handed.{named_points, handed_row}
 use Rattle.tree.specs.Refusals.{tree_refusal}
 use Rattle.update.specs.declared.Record.{Record}
 use Rattle.update.specs.declared.Answer.{Answer}
-use Rattle.update.specs.declared.Answer.TheVariants.{Round, Done, Refused as StepRefused}
+use Rattle.update.specs.declared.Answer.TheVariants.{Round, Done}
 use Rattle.update.specs.declared.Run.{Run}
-use Rattle.update.specs.declared.Run.TheVariants.{Paused, Finished, Refused as RunRefused}
-use Rattle.update.specs.declared.Reading.{Reading}
-use Rattle.update.specs.declared.Reading.TheVariants.{Set, Refused as ReadRefused}
+use Rattle.update.specs.declared.Run.TheVariants.{Paused, Finished}
 use Rattle.update.specs.Memories.{lent, Memory}
 use Rattle.update.specs.Records.{empty_record}
 use Rattle.update.specs.Steps.{Outcome, round, done, Ending, paused, finished}
-use Rattle.update.specs.Calls.{Said, refused, said, answer_says, RunOutcome, run_says, reading_says, Left, Opened, load_call, points_call, replace_call, step_call, run_call, read_call}
+use Rattle.update.specs.Calls.{Said, refused, said, answer_says, RunOutcome, run_says, call_says, reading_says, Left, Opened, load_call, points_call, replace_call, step_call, run_call, read_call}
 use Rattle.update_step.specs.declared.step.Stepped.{Stepped}
 use Rattle.update_step.specs.declared.run.Ran.{Ran}
-use Rattle.update_open.specs.declared.Begun.{Begun}
-use Rattle.engine.specs.Lent.{opened_says, begun, stepped, ran, RunLeaves}
+use Rattle.engine.specs.Lent.{begun, stepped, ran, run_answer, run_after}
 use Rattle.engine.specs.Unique.{AnswersOne, EveryLeavesOne}
 
 -- ---- back from what an answer says
 
-abbrev verdict_back : Said Opened → Verdict
-verdict_back (said o) = Sound
-verdict_back (refused n) = Refused (named n)
+abbrev call_back : {A B : Type 0} → (B → A) → Said B → Result A Refusal
+call_back back (said x) = Ok (back x)
+call_back back (refused n) = Err (named n)
 
-verdict_back_lem : (v : Verdict) → verdict_back (opened_says v) ≡ v
-verdict_back_lem Sound = refl
-verdict_back_lem (Refused r) = ap Refused (number_back r)
-
-abbrev answer_back : Said Outcome → Answer
-answer_back (said (round least k size closed)) = Round least k size closed
-answer_back (said (done circles evaluations changed)) = Done circles evaluations changed
-answer_back (refused n) = StepRefused (named n)
-
-answer_back_lem : (a : Answer) → answer_back (answer_says a) ≡ a
-answer_back_lem (Round least k size closed) = refl
-answer_back_lem (Done circles evaluations changed) = refl
-answer_back_lem (StepRefused r) = ap StepRefused (number_back r)
+abbrev outcome_back : Outcome → Answer
+outcome_back (round least k size closed) = Round least k size closed
+outcome_back (done circles evaluations changed) = Done circles evaluations changed
 
 abbrev end_back : ℕ → Ending → Run
 end_back n paused = Paused n
 end_back n (finished circles evaluations changed) = Finished n circles evaluations changed
 
-abbrev run_back : Said RunOutcome → Run
-run_back (said x) = end_back x.rounds x.ending
-run_back (refused n) = RunRefused (named n)
+abbrev run_back : RunOutcome → Run
+run_back x = end_back x.rounds x.ending
 
-run_back_lem : (a : Run) → run_back (run_says a) ≡ a
-run_back_lem (Paused n) = refl
-run_back_lem (Finished n circles evaluations changed) = refl
-run_back_lem (RunRefused r) = ap RunRefused (number_back r)
+run_back_lem : (a : Result Run Refusal) → call_back run_back (call_says run_says a) ≡ a
+run_back_lem (Ok (Paused n)) = refl
+run_back_lem (Ok (Finished n circles evaluations changed)) = refl
+run_back_lem (Err r) = ap Err (number_back r)
 
-abbrev reading_back : Said ℕ → Reading
-reading_back (said v) = Set v
-reading_back (refused n) = ReadRefused (named n)
+reading_back_lem : (a : Result ℕ Refusal) → call_back (λ v. v) (reading_says a) ≡ a
+reading_back_lem (Ok v) = refl
+reading_back_lem (Err r) = ap Err (number_back r)
 
-reading_back_lem : (a : Reading) → reading_back (reading_says a) ≡ a
-reading_back_lem (Set v) = refl
-reading_back_lem (ReadRefused r) = ap ReadRefused (number_back r)
+-- ---- and from what a call comes to: of a call that is carried out, the record to go on with is in the answer
 
--- ---- and from what a call comes to
+abbrev begun_back : Left (Said Opened) → After (Result Record Refusal) Memory
+begun_back l = record { answer = call_back (λ o. l.next) l.answer; found = l.memory }
 
-abbrev begun_back : Left (Said Opened) → After Begun Memory
-begun_back l = record { answer = record { verdict = verdict_back l.answer; «record» = l.next }; found = l.memory }
+abbrev step_back : Record → Outcome → Stepped
+step_back next o = record { answer = outcome_back o; «record» = next }
 
-begun_back_lem : (x : After Begun Memory) → begun_back (begun x.answer x.found) ≡ x
-begun_back_lem x = ap (λ v. record { answer = record { verdict = v; «record» = x.answer.«record» }; found = x.found }) (verdict_back_lem x.answer.verdict)
+step_back_lem : (next : Record) (a : Answer) → call_back (step_back next) (answer_says a) ≡ Ok (record { answer = a; «record» = next })
+step_back_lem next (Round least k size closed) = refl
+step_back_lem next (Done circles evaluations changed) = refl
 
-abbrev stepped_back : Left (Said Outcome) → After Stepped (List ℕ)
-stepped_back l = record { answer = record { answer = answer_back l.answer; «record» = l.next }; found = l.memory.sets }
+abbrev stepped_back : Left (Said Outcome) → After (Result Stepped Refusal) (List ℕ)
+stepped_back l = record { answer = call_back (step_back l.next) l.answer; found = l.memory.sets }
 
-abbrev ran_back : Left (Said RunOutcome) → After Ran (List ℕ)
-ran_back l = record { answer = record { answer = run_back l.answer; «record» = l.next }; found = l.memory.sets }
+abbrev ran_back : Record → RunOutcome → Ran
+ran_back next x = record { answer = run_back x; «record» = next }
+
+ran_back_lem : (next : Record) (a : Run) → call_back (ran_back next) (run_says a) ≡ Ok (record { answer = a; «record» = next })
+ran_back_lem next (Paused n) = refl
+ran_back_lem next (Finished n circles evaluations changed) = refl
+
+abbrev run_record_back : Left (Said RunOutcome) → After (Result Ran Refusal) (List ℕ)
+run_record_back l = record { answer = call_back (ran_back l.next) l.answer; found = l.memory.sets }
+
+abbrev run_lent_back : Left (Said RunOutcome) → After (Result Run Refusal) (After Record (List ℕ))
+run_lent_back l = record { answer = call_back run_back l.answer; found = record { answer = l.next; found = l.memory.sets } }
+
+begun_back_lem : (r : Record) (a : Result Record Refusal) (m : Memory) → begun_back (begun r a m) ≡ record { answer = a; found = m }
+begun_back_lem r (Ok next) m = refl
+begun_back_lem r (Err e) m = ap (λ (q : Refusal). record { answer = Err q; found = m }) (number_back e)
 
 module _ (held owns earlier : List ℕ) where
-  stepped_back_lem : (x : After Stepped (List ℕ)) → stepped_back (stepped x.answer.answer x.answer.«record» (lent held owns x.found earlier)) ≡ x
-  stepped_back_lem x = ap (λ a. record { answer = record { answer = a; «record» = x.answer.«record» }; found = x.found }) (answer_back_lem x.answer.answer)
+  run_lent_back_lem : (x : After (Result Run Refusal) (After Record (List ℕ))) → run_lent_back (ran x.answer x.found.answer (lent held owns x.found.found earlier)) ≡ x
+  run_lent_back_lem x = ap (λ (a : Result Run Refusal). record { answer = a; found = x.found }) (run_back_lem x.answer)
 
-  ran_back_lem : (x : After Ran (List ℕ)) → ran_back (ran x.answer.answer x.answer.«record» (lent held owns x.found earlier)) ≡ x
-  ran_back_lem x = ap (λ a. record { answer = record { answer = a; «record» = x.answer.«record» }; found = x.found }) (run_back_lem x.answer.answer)
+  module _ (r : Record) where
+    stepped_back_lem : (a : Result Stepped Refusal) (s : List ℕ) → stepped_back (stepped r a (lent held owns s earlier)) ≡ record { answer = a; found = s }
+    stepped_back_lem (Ok d) s = ap (λ (q : Result Stepped Refusal). record { answer = q; found = s }) (step_back_lem d.«record» d.answer)
+    stepped_back_lem (Err e) s = ap (λ (q : Refusal). record { answer = Err q; found = s }) (number_back e)
+
+    run_record_back_lem : (a : Result Ran Refusal) (s : List ℕ) → run_record_back (ran (run_answer a) (run_after r a) (lent held owns s earlier)) ≡ record { answer = a; found = s }
+    run_record_back_lem (Ok d) s = ap (λ (q : Result Ran Refusal). record { answer = q; found = s }) (ran_back_lem d.«record» d.answer)
+    run_record_back_lem (Err e) s = ap (λ (q : Refusal). record { answer = Err q; found = s }) (number_back e)
 
 -- ---- no second fits
 
@@ -105,23 +111,25 @@ answers_one = record {
   empty = only_equal empty_record;
 }
 
-run_one : (t held owns sets earlier : List ℕ) (r : Record) (budget : ℕ)
-    → Only (λ (x : After Ran (List ℕ)). RunLeaves t held owns sets earlier r budget x.answer.answer x.answer.«record» x.found)
-run_one t held owns sets earlier r budget =
-    record {
-      one = λ a b p q.
-          (only_said (λ x. ran x.answer.answer x.answer.«record» (lent held owns x.found earlier)) ran_back (ran_back_lem held owns earlier)
-          (run_call t (lent held owns sets earlier) r budget)).one a b p.left q.left;
-    }
+opens : (r : Record) (l : Left (Said Opened)) → Only (λ (x : After (Result Record Refusal) Memory). begun r x.answer x.found ≡ l)
+opens r l = only_said (λ x. begun r x.answer x.found) begun_back (λ x. begun_back_lem r x.answer x.found) l
 
 pub every_leaves_one : EveryLeavesOne
 every_leaves_one t held owns sets earlier r = record {
-  load = λ ns new_owns. only_said (λ x. begun x.answer x.found) begun_back begun_back_lem (load_call t (lent held owns sets earlier) r ns new_owns);
-  replace = λ point ns new_owns. only_said (λ x. begun x.answer x.found) begun_back begun_back_lem (replace_call t (lent held owns sets earlier) r point ns new_owns);
-  replace_points = λ points ns new_owns.
-      only_said (λ x. begun x.answer x.found) begun_back begun_back_lem (points_call t (lent held owns sets earlier) r (handed_row (named_points points) ns new_owns));
-  step = only_said (λ x. stepped x.answer.answer x.answer.«record» (lent held owns x.found earlier)) stepped_back (stepped_back_lem held owns earlier)
+  load = λ ns new_owns. opens r (load_call t (lent held owns sets earlier) r ns new_owns);
+  replace = λ point ns new_owns. opens r (replace_call t (lent held owns sets earlier) r point ns new_owns);
+  replace_points = λ points ns new_owns. opens r (points_call t (lent held owns sets earlier) r (handed_row (named_points points) ns new_owns));
+  step = only_said (λ x. stepped r x.answer (lent held owns x.found earlier)) stepped_back (λ x. stepped_back_lem held owns earlier r x.answer x.found)
       (step_call t (lent held owns sets earlier) r);
-  run = run_one t held owns sets earlier r;
-  read = λ x. only_said reading_says reading_back reading_back_lem (read_call t (lent held owns sets earlier) r x);
+  run_record = λ budget. record {
+    one = λ x y p q.
+        (only_said (λ x. ran (run_answer x.answer) (run_after r x.answer) (lent held owns x.found earlier)) run_record_back (λ x. run_record_back_lem held owns earlier r x.answer x.found)
+        (run_call t (lent held owns sets earlier) r budget)).one x y p.left q.left;
+  };
+  run = λ budget. record {
+    one = λ x y p q.
+        (only_said (λ x. ran x.answer x.found.answer (lent held owns x.found.found earlier)) run_lent_back (run_lent_back_lem held owns earlier)
+        (run_call t (lent held owns sets earlier) r budget)).one x y p.left q.left;
+  };
+  read = λ x. only_said reading_says (call_back (λ v. v)) reading_back_lem (read_call t (lent held owns sets earlier) r x);
 }

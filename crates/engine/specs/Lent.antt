@@ -5,7 +5,6 @@ use Rattle.update.specs.Memories.{lent, Memory}
 use Rattle.update.specs.Steps.{Outcome}
 use Rattle.update.specs.Calls.{Said, answer_says, RunOutcome, run_says, call_says, reading_says, Left, step_call, run_call, read_call}
 use Rattle.update.specs.declared.Record.{Record}
-use Rattle.update.specs.declared.Answer.{Answer}
 use Rattle.update.specs.declared.Run.{Run}
 use Rattle.update_step.specs.declared.step.Stepped.{Stepped}
 use Rattle.update_step.specs.declared.run.Ran.{Ran}

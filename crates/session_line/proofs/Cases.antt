@@ -2,6 +2,7 @@
 use mathlib.Core.Path.{◌≡◌, refl}
 use mathlib.Core.Bool.{Bool, true, false, cond}
 use mathlib.Core.List.{List, [], ◌∷◌}
+use mathlib.Core.Logic.{◌⊎◌, inl, inr}
 use Prim.Native.Nat.{ℕ, zero, suc, ◌+◌, ◌≤◌, ◌<◌}
 use native.Mathlib.Omega.{arith}
 use borrow.Author.Tests.{lt-ltb, le-ltb}
@@ -190,10 +191,8 @@ module _ (t ps os : List ℕ) (m : Memory) (r : Record) where
       unfolding hearing
       by_nodes o count taken command e = rw e
 
-      pub by_working : (turns : ℕ) → awaited ≡ Working turns → hearing awaited f line t ps os m r ≡ waiting t ps os m r (Working turns)
+      -- no line is heard
+      pub by_none : ((turns : ℕ) × (awaited ≡ Working turns)) ⊎ (awaited ≡ Stopped) → hearing awaited f line t ps os m r ≡ waiting t ps os m r awaited
       unfolding hearing
-      by_working turns e = rw e
-
-      pub by_stopped : awaited ≡ Stopped → hearing awaited f line t ps os m r ≡ waiting t ps os m r Stopped
-      unfolding hearing
-      by_stopped e = rw e
+      by_none (inl e) = rw e.1
+      by_none (inr e) = rw e

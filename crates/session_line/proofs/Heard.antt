@@ -1,22 +1,20 @@
 -- What a line's parts of work lead to, as the code leaves them. Assumes nothing.
 use mathlib.Core.Path.{◌≡◌, refl, sym}
 use mathlib.Core.List.{List}
+use Rattle.std.specs.Prelude.{Result, Ok, Err}
 use Prim.Native.Nat.{ℕ, ◌+◌, ◌≤◌, min}
 use native.Mathlib.Omega.{arith}
 use lib.ListN.{length, take}
 use lib.Seq.{sets, length-take-le}
 use Rattle.refusal.specs.Numbers.{number_of}
 use Rattle.refusal.specs.declared.Refusal.{Refusal}
-use Rattle.refusal.specs.declared.Verdict.TheVariants.{Sound, Refused}
 use Rattle.text_frame.specs.Out.{refusal_text}
 use Rattle.update.specs.declared.Record.{Record}
 use Rattle.update.specs.Records.{empty_record}
 use Rattle.update.specs.Memories.{Memory}
 use Rattle.text_frame.specs.declared.Expected.{Expected}
+use Rattle.text_frame.specs.declared.Misread.{Misread}
 use Rattle.text_frame.proofs.Printed.{refusal_length}
-use Rattle.text_table.specs.declared.Taken.{Taken}
-use Rattle.text_table.specs.declared.Taken.TheVariants.{Next, Stopped as StoppedAt}
-use Rattle.update_open.specs.declared.Begun.{Begun}
 use Rattle.update_open.specs.Lent.{begun}
 use Rattle.tree.specs.declared.Point.{Point}
 use Rattle.tree.specs.Handed.{announced}
@@ -62,22 +60,22 @@ module _ (t ps os : List ℕ) (m : Memory) (r : Record) where
       record { awaited = refl; next = refl; place = omega (arith, refusal_length n line); shown = f; words_then = refl; parts_then = refl; owns_then = refl; memory = refl }
 
   -- ---- the command whose last node has come
-  module _ (coming : Coming) (count command : ℕ) (b : Begun) (m' : Memory) (n : ℕ) (k : n ≡ min count 513) (qs : List Point) (q : qs ≡ points_in os) (e : begun b m' ≡ order_call coming qs t m r (take n ps) (take n os)) where
-    pub called_open : b.verdict ≡ Sound → called t ps os m r coming count command ≡ waiting t ps os m' b.«record» (Working turns_most)
+  module _ (coming : Coming) (count command : ℕ) (b : Result Record Refusal) (m' : Memory) (n : ℕ) (k : n ≡ min count 513) (qs : List Point) (q : qs ≡ points_in os) (e : begun r b m' ≡ order_call coming qs t m r (take n ps) (take n os)) where
+    pub called_open : (next : Record) → b ≡ Ok next → called t ps os m r coming count command ≡ waiting t ps os m' next (Working turns_most)
     unfolding called
-    called_open s = rw (← k, ← q, ← e, s)
+    called_open next s = rw (← k, ← q, ← e, s)
 
-    pub called_refused : (why : Refusal) → b.verdict ≡ Refused why
-        → called t ps os m r coming count command ≡ record { awaited = Command; text = refusal_text (number_of why) command; next = b.«record»; words = t; parts = ps; part_owns = os; memory = m' }
+    pub called_refused : (why : Refusal) → b ≡ Err why
+        → called t ps os m r coming count command ≡ record { awaited = Command; text = refusal_text (number_of why) command; next = r; words = t; parts = ps; part_owns = os; memory = m' }
     unfolding called
     called_refused why s = rw (← k, ← q, ← e, s)
 
 -- ---- a frame of the table: u the words behind it, and w those that the code left
-module _ (u w ps os : List ℕ) (m : Memory) (printed : ℕ) (out : List ℕ) (taken : Taken) where
-  pub table_next : (awaited : Awaited) (r : Record) (y : Expected) → taken ≡ Next y → w ≡ u → awaited ≡ awaited_of y → r ≡ empty_record
+module _ (u w ps os : List ℕ) (m : Memory) (printed : ℕ) (out : List ℕ) (taken : Result Expected Misread) where
+  pub table_next : (awaited : Awaited) (r : Record) (y : Expected) → taken ≡ Ok y → w ≡ u → awaited ≡ awaited_of y → r ≡ empty_record
       → Hears (tabled u ps os m taken) (record { awaited = awaited; «record» = r; printed = printed }) printed out out w ps os m
   table_next awaited r y e f g h = rw (e, f, g, h) (silent u ps os m empty_record (awaited_of y) printed out)
 
-  pub table_stopped : (out' : List ℕ) (told : Told) (r : Record) (q : Refusal) (line : ℕ) → taken ≡ StoppedAt q line → w ≡ u → r ≡ empty_record
-      → Hears (stopped w ps os m r (number_of q) line) told printed out out' w ps os m → Hears (tabled u ps os m taken) told printed out out' w ps os m
-  table_stopped out' told r q line e f h x = rw (e, ← f, ← h) x
+  pub table_stopped : (out' : List ℕ) (told : Told) (r : Record) (bad : Misread) → taken ≡ Err bad → w ≡ u → r ≡ empty_record
+      → Hears (stopped w ps os m r (number_of bad.refusal) bad.line) told printed out out' w ps os m → Hears (tabled u ps os m taken) told printed out out' w ps os m
+  table_stopped out' told r bad e f h x = rw (e, ← f, ← h) x

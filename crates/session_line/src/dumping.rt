@@ -29,24 +29,16 @@ pub fn tell_sets(
     requires spacious { Spacious out.old printed }
     ensures { (result.awaited ≡ Command) × (result.«record» ≡ «record») × (result.printed ≡ printed + length (dump_told line table.now «record» (lent held.now held_owns.now sets.now earlier.now)).text) × (out.new ≡ sets_at out.old printed (dump_told line table.now «record» (lent held.now held_owns.now sets.now earlier.now)).text) }
 {
-    let open = record.open;
-    if is_open(open) {
-        return Told {
-            awaited: Awaited::Command,
-            record: record,
-            printed: put_refusal(out, printed, Refusal::Busy, line),
-        };
-    }
-    if !record.held {
-        return Told {
-            awaited: Awaited::Command,
-            record: record,
-            printed: put_refusal(out, printed, Refusal::Absent, line),
-        };
-    }
+    let printed = if is_open(record.open) {
+        put_refusal(out, printed, Refusal::Busy, line)
+    } else if !record.held {
+        put_refusal(out, printed, Refusal::Absent, line)
+    } else {
+        put_sets(table, held, record.nodes, sets, out, printed)
+    };
     Told {
         awaited: Awaited::Command,
-        record: record,
-        printed: put_sets(table, held, record.nodes, sets, out, printed),
+        record,
+        printed,
     }
 }

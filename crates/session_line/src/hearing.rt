@@ -23,7 +23,7 @@ fn stop(out: &mut [u8], printed: usize, record: Record, refusal: Refusal, line: 
 {
     Told {
         awaited: Awaited::Stopped,
-        record: record,
+        record,
         printed: put_refusal(out, printed, refusal, line),
     }
 }
@@ -43,10 +43,10 @@ fn stop_at(out: &mut [u8], printed: usize, record: Record, frame: Frame, line: u
 fn awaited_of(expected: Expected) -> Awaited
     ensures { result ≡ awaited_of expected }
 {
-    if let Expected::Ended = expected {
-        return Awaited::Command;
+    match expected {
+        Expected::Ended => Awaited::Command,
+        _ => Awaited::Table(expected),
     }
-    Awaited::Table(expected)
 }
 
 // A frame of the table. No record counts before a tree is held.
@@ -66,7 +66,7 @@ fn hear_table(
         Ok(next) => Told {
             awaited: awaited_of(next),
             record: none,
-            printed: printed,
+            printed,
         },
         Err(e) => stop(out, printed, none, e.refusal, e.line),
     }
@@ -100,13 +100,13 @@ fn hear_order(
     }
     Told {
         awaited: Awaited::Nodes {
-            coming: coming,
-            count: count,
+            coming,
+            count,
             taken: 0,
-            line: line,
+            line,
         },
-        record: record,
-        printed: printed,
+        record,
+        printed,
     }
 }
 
@@ -148,12 +148,12 @@ fn hear_naming(
     }
     Told {
         awaited: Awaited::Naming {
-            count: count,
+            count,
             taken: 0,
-            line: line,
+            line,
         },
-        record: record,
-        printed: printed,
+        record,
+        printed,
     }
 }
 
@@ -181,7 +181,7 @@ fn hear_change(
             table,
             record,
             Coming::Load,
-            count as usize,
+            usize::from(count),
             line,
             parts,
             part_owns,
@@ -195,8 +195,8 @@ fn hear_change(
         Change::Replace { point, count } => hear_order(
             table,
             record,
-            Coming::Replace(point as usize),
-            count as usize,
+            Coming::Replace(usize::from(point)),
+            usize::from(count),
             line,
             parts,
             part_owns,
@@ -210,7 +210,7 @@ fn hear_change(
         Change::Corrections { count } => hear_naming(
             table,
             record,
-            count as usize,
+            usize::from(count),
             line,
             parts,
             part_owns,
@@ -249,15 +249,7 @@ fn hear_command(
             printed,
         ),
         Frame::Dump => tell_sets(
-            table,
-            record,
-            &*held,
-            &*held_owns,
-            &*sets,
-            &*earlier,
-            line,
-            out,
-            printed,
+            table, record, held, held_owns, sets, earlier, line, out, printed,
         ),
         _ => stop_at(out, printed, record, frame, line),
     }
@@ -296,15 +288,15 @@ fn hear_point(
     if taken + 1 < count {
         return Told {
             awaited: Awaited::Naming {
-                count: count,
+                count,
                 taken: taken + 1,
                 line: start,
             },
-            record: record,
-            printed: printed,
+            record,
+            printed,
         };
     }
-    let all = announced_in(&*part_owns, count);
+    let all = announced_in(part_owns, count);
     hear_order(
         table,
         record,
@@ -312,7 +304,7 @@ fn hear_point(
         all,
         start,
         parts,
-        &*part_owns,
+        part_owns,
         held,
         held_owns,
         sets,
@@ -363,29 +355,18 @@ fn hear_node(
     if taken + 1 < count {
         return Told {
             awaited: Awaited::Nodes {
-                coming: coming,
-                count: count,
+                coming,
+                count,
                 taken: taken + 1,
                 line: command,
             },
-            record: record,
-            printed: printed,
+            record,
+            printed,
         };
     }
     open_update(
-        table,
-        record,
-        coming,
-        count,
-        command,
-        &*parts,
-        &*part_owns,
-        held,
-        held_owns,
-        sets,
-        earlier,
-        out,
-        printed,
+        table, record, coming, count, command, parts, part_owns, held, held_owns, sets, earlier,
+        out, printed,
     )
 }
 
@@ -412,17 +393,7 @@ pub fn hear(
     match awaited {
         Awaited::Table(expected) => hear_table(table, expected, frame, line, out, printed),
         Awaited::Command => hear_command(
-            &*table,
-            record,
-            frame,
-            line,
-            &*parts,
-            &*part_owns,
-            held,
-            held_owns,
-            sets,
-            earlier,
-            out,
+            table, record, frame, line, parts, part_owns, held, held_owns, sets, earlier, out,
             printed,
         ),
         Awaited::Naming {
@@ -430,8 +401,8 @@ pub fn hear(
             taken,
             line: command,
         } => hear_point(
-            &*table, record, count, taken, command, frame, line, &*parts, part_owns, held,
-            held_owns, sets, earlier, out, printed,
+            table, record, count, taken, command, frame, line, parts, part_owns, held, held_owns,
+            sets, earlier, out, printed,
         ),
         Awaited::Nodes {
             coming,
@@ -439,18 +410,13 @@ pub fn hear(
             taken,
             line: command,
         } => hear_node(
-            &*table, record, coming, count, taken, command, frame, line, parts, part_owns, held,
+            table, record, coming, count, taken, command, frame, line, parts, part_owns, held,
             held_owns, sets, earlier, out, printed,
         ),
-        Awaited::Working { turns } => Told {
-            awaited: Awaited::Working { turns: turns },
-            record: record,
-            printed: printed,
-        },
-        Awaited::Stopped => Told {
-            awaited: Awaited::Stopped,
-            record: record,
-            printed: printed,
+        Awaited::Working { .. } | Awaited::Stopped => Told {
+            awaited,
+            record,
+            printed,
         },
     }
 }

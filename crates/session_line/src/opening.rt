@@ -1,5 +1,5 @@
 // The command whose last node has come: it is judged as a whole, and opens an update or is refused.
-ghost use Rattle.std.specs.Prelude.{◌≡◌, ◌+◌, ◌≤◌, min, length};
+ghost use Rattle.std.specs.Prelude.{◌≡◌, ◌+◌, ◌≤◌, length};
 ghost use Rattle.update_open.specs.Lent.{begun};
 ghost use Rattle.update_judge.specs.Order.{Holding};
 ghost use Rattle.session_owed.specs.Owed.{owns_kept, parts_kept, order_call};
@@ -15,13 +15,6 @@ use update_open::{load_judged, replace_judged, replace_points_judged};
 
 // A round makes an evaluation at the least, so that no update takes more steps.
 const TURNS: u64 = Record::EVALUATIONS + 2;
-
-// A command of more nodes than a tree may have is refused whatever they are: as many stand for all of them.
-fn at_most(count: usize) -> usize
-    ensures { result ≡ min count parts_kept }
-{
-    if count < PARTS { count } else { PARTS }
-}
 
 // The call that the command asks for, with the points that came before its nodes.
 fn call_order(
@@ -47,10 +40,7 @@ fn call_order(
         Coming::Several(count) => replace_points_judged(
             table,
             record,
-            Places {
-                count: count,
-                points: points,
-            },
+            Places { count, points },
             new,
             new_owns,
             held,
@@ -81,7 +71,8 @@ pub fn open_update(
     requires parts_kept_in_bounds { (parts_kept ≤ length parts.now) × (owns_kept ≤ length part_owns.now) × (printed + 13 ≤ length out.old) }
     ensures { Hears (called table.now parts.now part_owns.now (lent held.old held_owns.old sets.old earlier.old) «record» coming count line) result printed out.old out.new table.now parts.now part_owns.now (lent held.new held_owns.new sets.new earlier.new) }
 {
-    let n = at_most(count);
+    // More nodes than a tree may have are refused whatever they are: as many stand for all of them.
+    let n = count.min(PARTS);
     let points = points_in(part_owns);
     let opened = call_order(
         table,
@@ -99,11 +90,11 @@ pub fn open_update(
         Ok(next) => Told {
             awaited: Awaited::Working { turns: TURNS },
             record: next,
-            printed: printed,
+            printed,
         },
         Err(refusal) => Told {
             awaited: Awaited::Command,
-            record: record,
+            record,
             printed: put_refusal(out, printed, refusal, line),
         },
     }

@@ -2,6 +2,7 @@
 use mathlib.Core.Path.{◌≡◌, refl, ap, sym, ◌∙◌}
 use mathlib.Core.Bool.{Bool, true, false, cond, true≢false}
 use mathlib.Core.List.{List, [], ◌∷◌, ◌++◌, append-nil}
+use Rattle.std.specs.Prelude.{Result, Ok, Err}
 use Prim.Native.Nat.{ℕ, zero, suc, ◌+◌, ◌-◌, ◌^◌, ◌≤◌, ◌<◌, min}
 use native.Mathlib.Omega.{arith}
 use borrow.Author.Tests.{ltb-true, ltb-false}
@@ -22,8 +23,6 @@ use Rattle.text_frame.specs.Walk.{is_on}
 use Rattle.text_table.specs.Read.{Sofar, taken_at, words_after}
 use Rattle.text_table.specs.Reading.{after, read_on}
 use Rattle.text_tree.specs.Planting.{Nodes, node_before, node_then, nodes_at}
-use Rattle.text_table.specs.declared.Taken.{Taken}
-use Rattle.text_table.specs.declared.Taken.TheVariants.{Next, Stopped as StoppedAt}
 use Rattle.text_table.proofs.Sofar.{goes}
 use Rattle.text_table.proofs.Readings.{read_turn, read_ends}
 use Rattle.text_table.proofs.Passing.{taken_type}
@@ -35,6 +34,7 @@ use Rattle.text_frame.specs.declared.Frame.{Frame}
 use Rattle.text_frame.specs.declared.Frame.TheVariants as frame
 use Rattle.text_frame.specs.declared.Change.{Change}
 use Rattle.text_frame.specs.declared.Change.TheVariants as change
+use Rattle.text_frame.specs.declared.Misread.{Misread}
 use Rattle.text_frame.specs.declared.Expected.{Expected}
 use Rattle.text_frame.specs.declared.Expected.TheVariants.{AtHeader, AtSymbol, AtProduction, AtEquation, Ended}
 use Rattle.session.specs.Naming.{Named, point_before, point_then, points_at}
@@ -203,13 +203,13 @@ module _ (t ps os : List ℕ) (m : Memory) (r : Record) (line : ℕ) (w : List �
     tabled_pays : Sofar t x → Roomy m → Pays (Table x) t ps os m r line w (tabled (words_after t x f) ps os m (taken_at t x f line))
     tabled_pays s room = by_taken (taken_at t x f line) refl
       where
-        by_taken : (a : Taken) → taken_at t x f line ≡ a → Pays (Table x) t ps os m r line w (tabled (words_after t x f) ps os m a)
-        by_taken (Next y) e = record {
+        by_taken : (a : Result Expected Misread) → taken_at t x f line ≡ a → Pays (Table x) t ps os m r line w (tabled (words_after t x f) ps os m a)
+        by_taken (Ok y) e = record {
           owing = λ u. table_first u ∙ rw e (table_on (words_after t x f) y u (taken_type t x f line y e)) ∙ next_owed (words_after t x f) y u;
           sound = next_sound (words_after t x f) y (goes t x f line y s e) room;
         }
-        by_taken (StoppedAt refusal at) e = record {
-          owing = λ u. table_first u ∙ rw e (sym (append-nil (refusal_text (number_of refusal) at))) ∙ ap (λ (a : List ℕ). refusal_text (number_of refusal) at ++ a) (sym (nothing_owed (words_after t x f) ps os m empty_record (line_after line) u));
+        by_taken (Err bad) e = record {
+          owing = λ u. table_first u ∙ rw e (sym (append-nil (refusal_text (number_of bad.refusal) bad.line))) ∙ ap (λ (a : List ℕ). refusal_text (number_of bad.refusal) bad.line ++ a) (sym (nothing_owed (words_after t x f) ps os m empty_record (line_after line) u));
           sound = tt;
         }
 

@@ -3,6 +3,7 @@
 use mathlib.Core.Path.{◌≡◌, refl, ap, sym, subst}
 use mathlib.Core.Bool.{Bool, true, false}
 use mathlib.Core.List.{List, [], ◌++◌}
+use Rattle.std.specs.Prelude.{Result, Ok, Err}
 use Prim.Native.Nat.{ℕ, zero, suc, ◌+◌, ◌≤◌, ◌<◌}
 use native.Mathlib.Omega.{arith}
 use lib.ListN.{length, length-append}
@@ -19,8 +20,7 @@ use Rattle.text_table.specs.Read.{taken_at, words_after}
 use Rattle.text_table.specs.Reading as table
 use Rattle.text_table.specs.Reading.{Reading, after, read_on}
 use Rattle.text_tree.specs.Planting.{Nodes, good, bad, node_before, node_then, nodes_at}
-use Rattle.text_table.specs.declared.Taken.{Taken}
-use Rattle.text_table.specs.declared.Taken.TheVariants.{Next, Stopped}
+use Rattle.text_frame.specs.declared.Misread.{Misread}
 use Rattle.text_tree.proofs.Trees.{nodes_forth}
 use Rattle.text_table.proofs.Readings.{read_turn, read_ends}
 use Rattle.text_table.proofs.Passing.{frame_on, none_left, taken_type, read_over}
@@ -126,9 +126,9 @@ abbrev pub moved_table : ℕ → Reading → Reading
 moved_table k (table.done t place line) = table.done t (k + place) line
 moved_table k (table.stop refusal line) = table.stop refusal line
 
-after_moved : (k : ℕ) (x : Taken) (go on : Expected → Reading) → ((y : Expected) → x ≡ Next y → go y ≡ moved_table k (on y)) → after x go ≡ moved_table k (after x on)
-after_moved k (Next y) go on e = e y refl
-after_moved k (Stopped refusal line) go on e = refl
+after_moved : (k : ℕ) (x : Result Expected Misread) (go on : Expected → Reading) → ((y : Expected) → x ≡ Ok y → go y ≡ moved_table k (on y)) → after x go ≡ moved_table k (after x on)
+after_moved k (Ok y) go on e = e y refl
+after_moved k (Err m) go on e = refl
 
 module _ (p s : List ℕ) where
   abbrev pub Moves : ℕ → ℕ → Type 0

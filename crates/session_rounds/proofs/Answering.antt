@@ -1,18 +1,18 @@
 -- A step's answer and its line. Assumes nothing.
-use mathlib.Core.Path.{◌≡◌, ap, ◌∙◌, subst}
-use mathlib.Core.Bool.{Bool, cond}
+use mathlib.Core.Path.{◌≡◌, refl, ap, ◌∙◌, subst}
+use mathlib.Core.Bool.{Bool, true, false, cond}
 use mathlib.Core.List.{List, [], ◌∷◌}
 use Prim.Native.Nat.{ℕ, ◌+◌, ◌<◌, ◌^◌}
 use lib.ListN.{length}
 use lib.Seq.{sets}
+use Rattle.std.specs.Int.{from_bool}
 use Rattle.text_line.specs.Text.{byte, two, three, four}
 use Rattle.text_line.proofs.Fields.{line_length}
 use Rattle.text_frame.specs.Out.{round_text, done_text}
-use Rattle.refusal.specs.declared.Refusal.{Refusal}
 use Rattle.update.specs.declared.Answer.{Answer}
-use Rattle.update.specs.declared.Answer.TheVariants.{Round, Done, Refused}
+use Rattle.update.specs.declared.Answer.TheVariants.{Round, Done}
 use Rattle.update.specs.Steps.{Outcome, round, done}
-use Rattle.update.specs.Calls.{answer_says}
+use Rattle.update.specs.Calls.{Said, refused, answer_says}
 use Rattle.session.specs.Session.{outcome_text}
 use Rattle.session_rounds.specs.Telling.{Printable, AnswerPut}
 
@@ -25,8 +25,15 @@ module _ {a : Answer} (p : Printable (answer_says a)) where
   pub done_fits : {x y z : ℕ} → a ≡ Done x y z → (x < 2 ^ 16) × (y < 2 ^ 32) × (z < 2 ^ 16)
   done_fits e = subst (λ (b : Answer). Printable (answer_says b)) e p
 
-  pub not_refused : {q : Refusal} → a ≡ Refused q → ⊥
-  not_refused e = subst (λ (b : Answer). Printable (answer_says b)) e p
+-- and a refusal has no line
+pub not_refused : {o : Said Outcome} {n : ℕ} → Printable o → o ≡ refused n → ⊥
+not_refused p e = subst (λ (o : Said Outcome). Printable o) e p
+
+-- ---- a flag's byte
+
+pub byte_of : (t : Bool) → from_bool t ≡ cond t 1 0
+byte_of true = refl
+byte_of false = refl
 
 -- ---- a line has 19 bytes
 

@@ -29,7 +29,6 @@ use Rattle.update.proofs.Leaving.{step_within_lem}
 use Rattle.update_open.proofs.Answers.{left_carried}
 use Rattle.update_judge.specs.Order.{Grounded, Holding, Going}
 use Rattle.update_judge.proofs.Orders.{step_none, tree_sound}
-use Rattle.engine.specs.Lent.{stepped}
 use Rattle.session.specs.Session as session
 use Rattle.session.specs.Session.{step_then, steps_told, text_before, outcome_text}
 use Rattle.session_owed.specs.declared.Awaited.TheVariants.{Command}
@@ -168,11 +167,15 @@ rounds_pay t m r (suc n) room g =
 
 -- ---- the same of a step as the code answers it
 
+-- what it leaves: its answer, the record d and the memory m
+abbrev pub left_by : Answer → Record → Memory → Left (Said Outcome)
+left_by a d m = record { answer = answer_says a; next = d; memory = m }
+
 is_over : Said Outcome → Bool
 is_over (refused n) = false
 is_over (said o) = is_done o
 
-module _ (t : List ℕ) (m : Memory) (r : Record) (g : Going t m r) (a : Answer) (d : Record) (m' : Memory) (e : stepped a d m' ≡ step_call t m r) where
+module _ (t : List ℕ) (m : Memory) (r : Record) (g : Going t m r) (a : Answer) (d : Record) (m' : Memory) (e : left_by a d m' ≡ step_call t m r) where
   -- the update is at work behind a round
   pub round_going : {x y z : ℕ} {k : Bool} → a ≡ Round x y z k → Going t m' d
   unfolding is_over

@@ -11,13 +11,12 @@ use Rattle.text_line.proofs.Out.{sets_append}
 use Rattle.climb.specs.Inner.Wired.{wired}
 use Rattle.update.specs.declared.Record.{Record}
 use Rattle.update.specs.declared.Answer.{Answer}
-use Rattle.update.specs.declared.Answer.TheVariants.{Round, Done, Refused}
+use Rattle.update.specs.declared.Answer.TheVariants.{Round, Done}
 use Rattle.update.specs.Memories.{lent, Memory}
 use Rattle.update.specs.Steps.{round, done, Made, step_of}
 use Rattle.update.specs.Calls.{said, answer_says, step_call}
 use Rattle.update_round.specs.Inner.Arranged.{circles_in}
 use Rattle.update_step.specs.Inner.Says.{StepSays}
-use Rattle.engine.specs.Lent.{stepped}
 use Rattle.update_judge.specs.Order.{Going}
 use Rattle.engine.specs.Inner.Prepared.{ArraysHold}
 use Rattle.engine.proofs.Stepping.{step_carried}
@@ -25,7 +24,7 @@ use Rattle.session.specs.Session.{outcome_text}
 use Rattle.session_rounds.specs.Telling.{AnswerPut, Worked, behind_text, step_within, steps_within, TurnsTold}
 use Rattle.session_owed.specs.declared.Awaited.TheVariants.{Command, Working}
 use Rattle.session_owed.specs.declared.Told.{Told}
-use Rattle.session_rounds.proofs.Paying.{within_next, round_going, same_nodes}
+use Rattle.session_rounds.proofs.Paying.{within_next, left_by, round_going, same_nodes}
 
 -- ---- texts behind each other
 
@@ -74,12 +73,12 @@ module _ (t owns : List ℕ) (n : ℕ) (a b left rule label members ends : List 
   carried : (held held_owns : List ℕ) (r : Record) (s : List ℕ) → Going t (lent held held_owns s olds) r → r.nodes ≡ r₀.nodes → owns ≡ take r₀.nodes held_owns
       → ArraysHold t (take r₀.nodes held) owns n a b left rule label members ends count
       → (answer : Answer) (d : Record) (s' : List ℕ) → StepSays (made_from r s) answer d s'
-      → stepped answer d (lent held held_owns s' olds) ≡ step_call t (lent held held_owns s olds) r
+      → left_by answer d (lent held held_owns s' olds) ≡ step_call t (lent held held_owns s olds) r
   carried held held_owns r s g e o h answer d s' u =
       let h₁ = subst (λ (k : ℕ). ArraysHold t (take k held) owns n a b left rule label members ends count) (sym e) h in
       let o₁ = o ∙ ap (λ (k : ℕ). take k held_owns) (sym e) in
       step_carried t (lent held held_owns s olds) r g n a b left rule label members ends count
-      (subst (λ (l : List ℕ). ArraysHold t (take r.nodes held) l n a b left rule label members ends count) o₁ h₁) answer d s'
+      (subst (λ (l : List ℕ). ArraysHold t (take r.nodes held) l n a b left rule label members ends count) o₁ h₁) (record { answer = answer; «record» = d }) s'
       (subst (λ (l : List ℕ). StepSays (step_of (wired n t l a b left rule) (circles_in n a b) r olds s) answer d s') o₁ u)
 
   module _ (still place : ℕ) (r : Record) (s out : List ℕ) (v : TurnsSoFar still place r s out) where
@@ -120,7 +119,7 @@ module _ (t owns : List ℕ) (n : ℕ) (a b left rule label members ends : List 
           let z : length out₀ - place - 19 ≡ length out₀ - place' = omega arith in
           c.within
           ∙ ap (λ (k : ℕ). behind_text c.text (steps_within k (length out₀ - place) t r (lent held held_owns s olds))) q
-          ∙ ap (behind_text c.text) (within_next (still - 1) (length out₀ - place) t r (lent held held_owns s olds) (stepped answer d (lent held held_owns s' olds)) (sym (carried held held_owns r s c.going c.nodes o h answer d s' u)) (omega arith))
+          ∙ ap (behind_text c.text) (within_next (still - 1) (length out₀ - place) t r (lent held held_owns s olds) (left_by answer d (lent held held_owns s' olds)) (sym (carried held held_owns r s c.going c.nodes o h answer d s' u)) (omega arith))
           ∙ ap (λ (k : ℕ). behind_text c.text (step_within (answer_says answer) d (lent held held_owns s' olds) (steps_within (still - 1) k t))) z
 
       on_shown : (text line : List ℕ) → out ≡ sets out₀ printed text → place ≡ printed + length text → out' ≡ sets out place line → out' ≡ sets out₀ printed (text ++ line)
@@ -144,12 +143,11 @@ module _ (t owns : List ℕ) (n : ℕ) (a b left rule label members ends : List 
             };
       }
 
-      -- an answer that is neither done nor a refusal is a round
+      -- an answer that is not done is a round
       pub turn_on : (answer : Answer) → place' ≤ length out₀ → StepSays (made_from r s) answer d s' → AnswerPut (answer_says answer) place out place' out' → ((x y z : ℕ) → answer ≡ Done x y z → ⊥)
           → TurnsSoFar (still - 1) place' d s' out'
       turn_on (Round x y z k) fit u put i = turn_round x y z k fit u put
       turn_on (Done x y z) fit u put i = absurd (i x y z refl)
-      turn_on (Refused q) fit u put i = let z : ◌≡◌ {A = ℕ} 0 1 = cc u.answer in absurd (omega arith)
 
       turn_last : (x y z : ℕ) → place' ≤ length out₀ → StepSays (made_from r s) (Done x y z) d s' → AnswerPut (said (done x y z)) place out place' out'
           → Tells (record { awaited = Command; «record» = d; printed = place' }) s' out'

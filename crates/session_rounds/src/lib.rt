@@ -1,7 +1,7 @@
 // What an update's rounds print.
 #![tactic(auto)]
 
-ghost use Rattle.std.specs.Prelude.{◌≡◌, cond, ◌+◌, ◌≤◌, length};
+ghost use Rattle.std.specs.Prelude.{◌+◌, ◌≤◌, length};
 ghost use Rattle.climb.specs.Inner.Wired.{Wiring};
 ghost use Rattle.update.specs.Within.{WithinLimits};
 ghost use Rattle.update.specs.Calls.{answer_says};
@@ -17,12 +17,6 @@ use text_frame::{ROUND_LINE, put_done, put_round};
 use update::{Answer, Record};
 use update_step::step_in;
 use wire_plan::prepare;
-
-fn bit(closed: bool) -> u8
-    ensures { result ≡ cond closed 1 0 }
-{
-    if closed { 1 } else { 0 }
-}
 
 // 18.1, 19.2: writes the line of a step's answer, and says where the next one goes.
 fn put_answer(out: &mut [u8], printed: usize, answer: Answer) -> usize
@@ -41,7 +35,7 @@ fn put_answer(out: &mut [u8], printed: usize, answer: Answer) -> usize
             least as u16,
             round as u32,
             size as u16,
-            bit(closed),
+            u8::from(closed),
         ),
         Answer::Done {
             circles,

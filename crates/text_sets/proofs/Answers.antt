@@ -1,6 +1,7 @@
 -- What a dump answers and leaves, from the refusal that its code found. Assumes nothing.
 use mathlib.Core.Path.{◌≡◌, refl, sym, ◌∙◌}
 use mathlib.Core.List.{List, [], ◌∷◌}
+use Rattle.std.proofs.Common.{Ok, Err}
 use Prim.Native.Nat.{ℕ, zero, suc, ◌≤◌, ◌<◌}
 use native.Mathlib.Omega.{arith}
 use borrow.Author.Tests.{lt-ltb, le-ltb}
@@ -17,7 +18,6 @@ use Rattle.refusal.specs.Orders.{when, above, refusal_by}
 use Rattle.update.specs.Refusals.{dump_refusal, look_order}
 use Rattle.update.specs.Calls.{refused}
 use Rattle.update_judge.proofs.Orders.{Looked, look_none}
-use Rattle.text_frame.specs.declared.Written.TheVariants.{Length, Refused}
 use Rattle.text_sets.specs.Calls.{dumped_text, wrote, unless_written, dump_call}
 use Rattle.refusal.proofs.Orders.{past, stopped, alone}
 
@@ -29,7 +29,7 @@ module _ (t : List ℕ) (m : Memory) (r : Record) (buffer : List ℕ) where
   abbrev number : ℕ
   number = dump_refusal t m r (length buffer) (length (dumped_text t m r))
 
-  refused_by : (q : Refusal) → number_of q ≡ number → wrote (Refused q) buffer ≡ dump_call t m r buffer
+  refused_by : (q : Refusal) → number_of q ≡ number → wrote (Err q) buffer ≡ dump_call t m r buffer
   unfolding dump_call
   refused_by q e = rw (← e) (some (number_of q) buffer (dumped_text t m r) (number_low q))
 
@@ -40,15 +40,15 @@ module _ (t : List ℕ) (m : Memory) (r : Record) (buffer : List ℕ) where
       let last = above 15 (length buffer) (length (dumped_text t m r)) in
       past (look_order t m r) (last ∷ []) (look_none t m r k) ∙ alone last
 
-  pub dump_stopped : (q : Refusal) → number_of q ≡ refusal_by (look_order t m r) → wrote (Refused q) buffer ≡ dump_call t m r buffer
+  pub dump_stopped : (q : Refusal) → number_of q ≡ refusal_by (look_order t m r) → wrote (Err q) buffer ≡ dump_call t m r buffer
   unfolding dump_refusal
   dump_stopped q e = refused_by q (stopped (look_order t m r) (above 15 (length buffer) (length (dumped_text t m r)) ∷ []) q e)
 
-  pub dump_short : Looked t m r → length buffer < length (dumped_text t m r) → wrote (Refused Buffer) buffer ≡ dump_call t m r buffer
+  pub dump_short : Looked t m r → length buffer < length (dumped_text t m r) → wrote (Err Buffer) buffer ≡ dump_call t m r buffer
   dump_short k h = refused_by Buffer (sym (dump_past k ∙ rw (lt-ltb (length buffer) (length (dumped_text t m r)) h)))
 
   pub dump_said : Looked t m r → length (dumped_text t m r) ≤ length buffer → (n : ℕ) (b : List ℕ) → n ≡ length (dumped_text t m r) → b ≡ sets buffer 0 (dumped_text t m r)
-      → wrote (Length n) b ≡ dump_call t m r buffer
+      → wrote (Ok n) b ≡ dump_call t m r buffer
   unfolding dump_call
   dump_said k h n b e f =
       let z : number ≡ 0 = dump_past k ∙ rw (le-ltb (length buffer) (length (dumped_text t m r)) h) in

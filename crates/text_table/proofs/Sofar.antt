@@ -22,7 +22,6 @@ use Rattle.text_frame.specs.Walk.{entry_of, after_part, seek_from, next_of, is_o
 use Rattle.text_frame.specs.Text.{type_of}
 use Rattle.text_table.specs.Read.{type_at, word_of, constant_of, store, words_after, strange_at, judged_at, taken_at, Awaits, Top, Part, Sofar, Goes}
 use Rattle.text_frame.specs.declared.Frame as text
-use Rattle.text_frame.specs.declared.Frame.TheVariants.{Rule, Node, Point, Change, Dump, Refused, Over}
 use Rattle.text_frame.specs.declared.Expected.{Expected}
 use Rattle.text_frame.specs.declared.Expected.TheVariants.{AtHeader, AtSymbol, AtProduction, AtEquation, Ended}
 use Rattle.text_table.proofs.Taking.{never_ended}

@@ -4,4 +4,4 @@ use Rattle.bench_stages.proofs.Judged.{held}
 use Rattle.bench_stages.proofs.judge.Goals as goal
 
 pub work-requires : goal.work-requires
-work-requires c = held c.args.table.now c.args.nodes.now c.args.owns.now (sound_zero c.in-Sound.is c.judge_tree.ensures)
+work-requires c = held c.args.table.now c.args.nodes.now c.args.owns.now (sound_zero c.in-Ok.is c.judge_tree.ensures)

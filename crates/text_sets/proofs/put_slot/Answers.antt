@@ -1,5 +1,5 @@
 -- The line of a declared slot, none of another. Assumes nothing.
-use Rattle.std.proofs.Common.{true, false, length, take, ap, sym, ◌∙◌, arith}
+use Rattle.std.proofs.Common.{length, take, ap, sym, ◌∙◌, arith}
 use Rattle.std.proofs.lemmas.List.Edits.{sets}
 use Rattle.climb.specs.Memory.{at}
 use Rattle.text_sets.proofs.Slots.{slot_told, slot_empty, set_length}

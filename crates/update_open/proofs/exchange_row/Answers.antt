@@ -1,6 +1,6 @@
 -- The cuts are counted, points and parts judged, and then all buffers are filled by one call. Assumes nothing.
 use Rattle.std.proofs.Common.{◌≡◌, ℕ, ◌≤◌, false, List, [], ◌∷◌, length, take, sym, arith}
-use Rattle.std.proofs.lemmas.Result.{err_from_is_err_and}
+use Rattle.refusal.proofs.Distinct.{handed}
 use lib.Seq.{length-take-le}
 use Rattle.table.proofs.Limits.{limits}
 use Rattle.tree.proofs.Numbered.{judged_numbered}
@@ -70,4 +70,4 @@ pub returns : goal.returns
 returns c = row_carried c.args.table.now (lent c.args.held.now c.args.held_owns.now c.args.sets.now c.args.earlier.now) c.args.«record» c.args.points c.args.new.now c.args.new_owns.now (holding c.args.table.now (lent c.args.held.now c.args.held_owns.now c.args.sets.now c.args.earlier.now) c.args.«record» c.args.points c.requires.grounded c.requires.held_sound c.requires.named) c.requires.named (tree_long c.args.table.now (lent c.args.held.now c.args.held_owns.now c.args.sets.now c.args.earlier.now) c.args.«record» c.args.points c.requires.grounded c.requires.held_sound c.requires.named) _ (aimed c.args.table.now (lent c.args.held.now c.args.held_owns.now c.args.sets.now c.args.earlier.now) c.args.«record» c.args.points c.requires.grounded c.requires.held_sound c.requires.named c.cuts_of-cuts.result c.cuts_of-cuts.ensures) (sym c.in_ok-judge_replaced.ensures) _ _ _ _ c.place_row-count.ensures.value c.shift_points.ensures c.just_opened.ensures c.place_row-count.ensures.lent_after
 
 pub returns-in_err-judge_replaced : goal.returns-in_err-judge_replaced
-returns-in_err-judge_replaced c = let p = err_from_is_err_and c.from_residual.result c.from_residual.ensures.1 in rw (p.1, p.2) (row_refused c.args.table.now (lent c.args.held.now c.args.held_owns.now c.args.sets.now c.args.earlier.now) c.args.«record» c.args.points c.args.new.now c.args.new_owns.now (holding c.args.table.now (lent c.args.held.now c.args.held_owns.now c.args.sets.now c.args.earlier.now) c.args.«record» c.args.points c.requires.grounded c.requires.held_sound c.requires.named) c.requires.named (tree_long c.args.table.now (lent c.args.held.now c.args.held_owns.now c.args.sets.now c.args.earlier.now) c.args.«record» c.args.points c.requires.grounded c.requires.held_sound c.requires.named) _ c.in_err-judge_replaced.ensures)
+returns-in_err-judge_replaced c = rw (handed _ _ c.from_residual.ensures.1) (row_refused c.args.table.now (lent c.args.held.now c.args.held_owns.now c.args.sets.now c.args.earlier.now) c.args.«record» c.args.points c.args.new.now c.args.new_owns.now (holding c.args.table.now (lent c.args.held.now c.args.held_owns.now c.args.sets.now c.args.earlier.now) c.args.«record» c.args.points c.requires.grounded c.requires.held_sound c.requires.named) c.requires.named (tree_long c.args.table.now (lent c.args.held.now c.args.held_owns.now c.args.sets.now c.args.earlier.now) c.args.«record» c.args.points c.requires.grounded c.requires.held_sound c.requires.named) _ c.in_err-judge_replaced.ensures)

@@ -1,6 +1,6 @@
 -- What comes first in every call, and then the load over what is judged. Assumes nothing.
 use Rattle.std.proofs.Common.{sym}
-use Rattle.std.proofs.lemmas.Result.{err_from_is_err_and}
+use Rattle.refusal.proofs.Distinct.{handed}
 use Rattle.update.specs.Memories.{lent}
 use Rattle.update_judge.proofs.Orders.{grounded, load_stopped}
 use Rattle.update_open.proofs.Answers.{load_refused}
@@ -10,4 +10,4 @@ pub load_judged-requires : goal.load_judged-requires
 load_judged-requires c = grounded c.args.table.now (lent c.args.held.now c.args.held_owns.now c.args.sets.now c.args.earlier.now) c.args.«record» (sym c.in_ok-judge_ground.ensures)
 
 pub returns-in_err-judge_ground : goal.returns-in_err-judge_ground
-returns-in_err-judge_ground c = let p = err_from_is_err_and c.from_residual.result c.from_residual.ensures.1 in rw (p.1, p.2) (load_refused c.args.table.now (lent c.args.held.now c.args.held_owns.now c.args.sets.now c.args.earlier.now) c.args.«record» c.args.productions.now c.args.owns.now _ (load_stopped c.args.table.now (lent c.args.held.now c.args.held_owns.now c.args.sets.now c.args.earlier.now) c.args.«record» c.args.productions.now c.args.owns.now _ c.in_err-judge_ground.ensures))
+returns-in_err-judge_ground c = rw (handed _ _ c.from_residual.ensures.1) (load_refused c.args.table.now (lent c.args.held.now c.args.held_owns.now c.args.sets.now c.args.earlier.now) c.args.«record» c.args.productions.now c.args.owns.now _ (load_stopped c.args.table.now (lent c.args.held.now c.args.held_owns.now c.args.sets.now c.args.earlier.now) c.args.«record» c.args.productions.now c.args.owns.now _ c.in_err-judge_ground.ensures))

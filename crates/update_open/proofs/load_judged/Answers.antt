@@ -1,6 +1,6 @@
 -- What is refused changes nothing; otherwise each buffer is filled by one call. Assumes nothing.
 use Rattle.std.proofs.Common.{sym, ◌∙◌, arith}
-use Rattle.std.proofs.lemmas.Result.{err_from_is_err_and}
+use Rattle.refusal.proofs.Distinct.{handed}
 use Rattle.refusal.proofs.Orders.{front}
 use Rattle.update.specs.Memories.{lent}
 use Rattle.update.specs.Refusals.{new_order, waiver_order}
@@ -25,4 +25,4 @@ returns c =
     (is_loaded (lent c.args.held.now c.args.held_owns.now c.args.sets.now c.args.earlier.now) _ c.args.productions.now c.args.owns.now p.held_after p.held_owns_after p.sets_after p.earlier_after)
 
 pub returns-in_err-judge_loaded : goal.returns-in_err-judge_loaded
-returns-in_err-judge_loaded c = let p = err_from_is_err_and c.from_residual.result c.from_residual.ensures.1 in rw (p.1, p.2) (load_refused c.args.table.now (lent c.args.held.now c.args.held_owns.now c.args.sets.now c.args.earlier.now) c.args.«record» c.args.productions.now c.args.owns.now _ (c.in_err-judge_loaded.ensures ∙ sym (load_past c.args.table.now (lent c.args.held.now c.args.held_owns.now c.args.sets.now c.args.earlier.now) c.args.«record» c.args.productions.now c.args.owns.now c.requires)))
+returns-in_err-judge_loaded c = rw (handed _ _ c.from_residual.ensures.1) (load_refused c.args.table.now (lent c.args.held.now c.args.held_owns.now c.args.sets.now c.args.earlier.now) c.args.«record» c.args.productions.now c.args.owns.now _ (c.in_err-judge_loaded.ensures ∙ sym (load_past c.args.table.now (lent c.args.held.now c.args.held_owns.now c.args.sets.now c.args.earlier.now) c.args.«record» c.args.productions.now c.args.owns.now c.requires)))

@@ -15,4 +15,4 @@ pub step_in-requires-clause-circles : goal.step_in-requires-clause-circles
 step_in-requires-clause-circles c = (arrays c.args.table.now (lent c.args.held.now c.args.held_owns.now c.args.sets.now c.args.earlier.now) c.args.«record» c.requires _ _ _ _ _ _ _ _ _ _ _ _ _ _ _ c.prepare-count.ensures).circles
 
 pub returns : goal.returns
-returns c = step_carried c.args.table.now (lent c.args.held.now c.args.held_owns.now c.args.sets.now c.args.earlier.now) c.args.«record» c.requires (8 * c.args.«record».nodes) _ _ _ _ _ _ _ _ (arrays c.args.table.now (lent c.args.held.now c.args.held_owns.now c.args.sets.now c.args.earlier.now) c.args.«record» c.requires _ _ _ _ _ _ _ _ _ _ _ _ _ _ _ c.prepare-count.ensures) _ _ _ c.step_in.ensures
+returns c = step_carried c.args.table.now (lent c.args.held.now c.args.held_owns.now c.args.sets.now c.args.earlier.now) c.args.«record» c.requires (8 * c.args.«record».nodes) _ _ _ _ _ _ _ _ (arrays c.args.table.now (lent c.args.held.now c.args.held_owns.now c.args.sets.now c.args.earlier.now) c.args.«record» c.requires _ _ _ _ _ _ _ _ _ _ _ _ _ _ _ c.prepare-count.ensures) c.step_in.result _ c.step_in.ensures

@@ -2,7 +2,7 @@
 use native.Mathlib.Omega.{arith}
 use Rattle.text_table.proofs.Sofar.{awaits_so}
 use Rattle.update.specs.Memories.{lent}
-use Rattle.session_line.proofs.Cases.{by_table, by_command, by_naming, by_nodes, by_working, by_stopped}
+use Rattle.session_line.proofs.Cases.{by_table, by_command, by_naming, by_nodes, by_none}
 use Rattle.session_line.proofs.Heard.{as_well, silent}
 use Rattle.session_line.proofs.hearing.hear.Goals as goal
 
@@ -15,31 +15,32 @@ hear_table-requires c =
 pub returns-in-Table : goal.returns-in-Table
 returns-in-Table c =
     let a = c.args in
+    let m = lent a.held.now a.held_owns.now a.sets.now a.earlier.now in
     let g = c.in-Table in
-    as_well (by_table c.args.table.now c.args.parts.now c.args.part_owns.now (lent c.args.held.now c.args.held_owns.now c.args.sets.now c.args.earlier.now) c.args.«record» a.frame a.line a.awaited g.expected g.is) (c.hear_table.ensures a.parts.now a.part_owns.now (lent c.args.held.now c.args.held_owns.now c.args.sets.now c.args.earlier.now))
+    as_well (by_table a.table.now a.parts.now a.part_owns.now m a.«record» a.frame a.line a.awaited g.expected g.is) (c.hear_table.ensures a.parts.now a.part_owns.now m)
 
 pub returns-in-Command : goal.returns-in-Command
-returns-in-Command c = let a = c.args in as_well (by_command c.args.table.now c.args.parts.now c.args.part_owns.now (lent c.args.held.now c.args.held_owns.now c.args.sets.now c.args.earlier.now) c.args.«record» a.frame a.line a.awaited c.in-Command.is) c.hear_command.ensures
+returns-in-Command c =
+    let a = c.args in
+    let m = lent a.held.now a.held_owns.now a.sets.now a.earlier.now in
+    as_well (by_command a.table.now a.parts.now a.part_owns.now m a.«record» a.frame a.line a.awaited c.in-Command.is) c.hear_command.ensures
 
 pub returns-in-Naming : goal.returns-in-Naming
 returns-in-Naming c =
     let a = c.args in
+    let m = lent a.held.now a.held_owns.now a.sets.now a.earlier.now in
     let g = c.in-Naming in
-    as_well (by_naming c.args.table.now c.args.parts.now c.args.part_owns.now (lent c.args.held.now c.args.held_owns.now c.args.sets.now c.args.earlier.now) c.args.«record» a.frame a.line a.awaited g.count g.taken g.command g.is) c.hear_point.ensures
+    as_well (by_naming a.table.now a.parts.now a.part_owns.now m a.«record» a.frame a.line a.awaited g.count g.taken g.command g.is) c.hear_point.ensures
 
 pub returns-in-Nodes : goal.returns-in-Nodes
 returns-in-Nodes c =
     let a = c.args in
+    let m = lent a.held.now a.held_owns.now a.sets.now a.earlier.now in
     let g = c.in-Nodes in
-    as_well (by_nodes c.args.table.now c.args.parts.now c.args.part_owns.now (lent c.args.held.now c.args.held_owns.now c.args.sets.now c.args.earlier.now) c.args.«record» a.frame a.line a.awaited g.coming g.count g.taken g.command g.is) c.hear_node.ensures
+    as_well (by_nodes a.table.now a.parts.now a.part_owns.now m a.«record» a.frame a.line a.awaited g.coming g.count g.taken g.command g.is) c.hear_node.ensures
 
 pub returns-in-Working : goal.returns-in-Working
 returns-in-Working c =
     let a = c.args in
-    let g = c.in-Working in
-    as_well (by_working c.args.table.now c.args.parts.now c.args.part_owns.now (lent c.args.held.now c.args.held_owns.now c.args.sets.now c.args.earlier.now) c.args.«record» a.frame a.line a.awaited g.turns g.is) (silent c.args.table.now c.args.parts.now c.args.part_owns.now (lent c.args.held.now c.args.held_owns.now c.args.sets.now c.args.earlier.now) c.args.«record» _ a.printed a.out.now)
-
-pub returns-in-Stopped : goal.returns-in-Stopped
-returns-in-Stopped c =
-    let a = c.args in
-    as_well (by_stopped c.args.table.now c.args.parts.now c.args.part_owns.now (lent c.args.held.now c.args.held_owns.now c.args.sets.now c.args.earlier.now) c.args.«record» a.frame a.line a.awaited c.in-Stopped.is) (silent c.args.table.now c.args.parts.now c.args.part_owns.now (lent c.args.held.now c.args.held_owns.now c.args.sets.now c.args.earlier.now) c.args.«record» _ a.printed a.out.now)
+    let m = lent a.held.now a.held_owns.now a.sets.now a.earlier.now in
+    as_well (by_none a.table.now a.parts.now a.part_owns.now m a.«record» a.frame a.line a.awaited c.in-Working.is) (silent a.table.now a.parts.now a.part_owns.now m a.«record» a.awaited a.printed a.out.now)
