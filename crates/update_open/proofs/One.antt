@@ -8,6 +8,9 @@ use native.Mathlib.Omega.{arith}
 use lib.ListN.{length, get_or, replicate, length-replicate}
 use lib.Seq.{take-length, take_all}
 use Rattle.table.specs.Words.{left_of}
+use Rattle.std.specs.Prelude.{Result}
+use Rattle.refusal.specs.declared.Refusal.{Refusal}
+use Rattle.tree.specs.declared.Places.{Places}
 use Rattle.tree.specs.declared.Point.{Point}
 use Rattle.tree.specs.Tree.{judge_tree}
 use Rattle.tree.specs.Replace.{part}
@@ -23,6 +26,7 @@ use Rattle.update.specs.Calls.{Said, Left, unless, Opened, points_call, replace_
 use Rattle.update.proofs.Several.{one_point}
 use Rattle.update_judge.proofs.Orders.{tree_unequal}
 use Rattle.update_judge.proofs.Outlines.{even, even_back, handed_even, handed_uneven, bare_tree}
+use Rattle.update_open.specs.Lent.{PointsLeave, ReplaceLeaves}
 use Rattle.update_open.specs.Inner.Placed.{point_of, placed}
 
 one_named : (q : Point) → named_points (placed (q ∷ [])) ≡ q ∷ []
@@ -93,3 +97,7 @@ module _ (t : List ℕ) (m : Memory) (r : Record) (point : ℕ) (new new_owns : 
       (λ (e : evenly (q ∷ []) new new_owns ≡ false).
       ap (points_call t m r) (one_uneven e) ∙ one_point t m r (record { point = point; nodes = replicate (length new) 0; owns = [] }) ∙ both_refused (unequal e))
       (either (evenly (q ∷ []) new new_owns))
+
+  -- so the call at the points that hold that one alone
+  pub one_handed : (answer : Result Record Refusal) (m' : Memory) {places : Places} → places ≡ placed (q ∷ []) → PointsLeave t m r places new new_owns answer m' → ReplaceLeaves t m r point new new_owns answer m'
+  one_handed answer m' e h = h ∙ ap (λ (p : Places). points_call t m r (handed_row (named_points p) new new_owns)) e ∙ one_call

@@ -2,12 +2,10 @@
 #![tactic(auto)]
 
 ghost use Rattle.std.specs.Prelude.{◌≡◌, [], ◌∷◌};
-ghost use Rattle.tree.specs.Handed.{named_points, bare_row};
-ghost use Rattle.update.specs.Refusals.{held_refusal};
 ghost use Rattle.update_judge.specs.Inner.Cuts.{named_cuts, shifted};
-ghost use Rattle.update_judge.specs.Order.{Grounded, Holding, Named};
+ghost use Rattle.update_judge.specs.Order.{Grounded, Holding};
 ghost use Rattle.update_open.specs.Lent.{LoadLeaves, PointsLeave, ReplaceLeaves};
-ghost use Rattle.update_open.specs.Inner.Placed.{point_of, placed, opened_at, Shiftable};
+ghost use Rattle.update_open.specs.Inner.Placed.{point_of, placed, opened_at, Shiftable, Pointed};
 ghost use Rattle.update.specs.Memories.{lent};
 
 use refusal::Refusal;
@@ -16,20 +14,17 @@ use update::{Open, Record};
 use update_judge::{cuts_of, judge_aim, judge_ground, judge_loaded, judge_named, judge_replaced};
 use update_place::placing::{place_row, place_tree};
 
+// What stands in a record behind its points.
+const NOWHERE: Point = Point { node: 0, count: 0 };
+
 // One point, as a call names it or a load's record has it.
+#[tactic(auto, unfolding(update::specs::Records::padded))]
 fn one_point(node: usize, count: usize) -> Places
     ensures { result ≡ placed (point_of node count ∷ []) }
 {
-    let none = Point { node: 0, count: 0 };
-    let mut points = [none; 8];
-    points[0] = Point {
-        node: node,
-        count: count,
-    };
-    Places {
-        count: 1,
-        points: points,
-    }
+    let mut points = [NOWHERE; Record::POINTS];
+    points[0] = Point { node, count };
+    Places { count: 1, points }
 }
 
 // The points in the new tree: each moves by what came and by what left before it.
@@ -37,44 +32,37 @@ fn shift_points(cuts: Cuts) -> Places
     requires { Shiftable cuts }
     ensures { result ≡ placed (shifted 0 0 (named_cuts cuts)) }
 {
-    let count = cuts.count;
-    let list = cuts.cuts;
-    let none = Point { node: 0, count: 0 };
-    let mut points = [none; 8];
+    let mut points = [NOWHERE; Record::POINTS];
     let mut came = 0;
     let mut left = 0;
-    let mut i = 0;
-    while i < count {
-        let cut = list[i];
+    for i in 0..cuts.count {
+        let cut = cuts.cuts[i];
         points[i] = Point {
             node: cut.node + came - left,
             count: cut.count,
         };
         came += cut.count;
         left += cut.old;
-        i += 1;
     }
     Places {
-        count: count,
-        points: points,
+        count: cuts.count,
+        points,
     }
 }
 
 // The record of an update just opened: nothing is worked on or counted yet.
+#[tactic(auto, unfolding(update::specs::Records::empty_record, update::specs::Records::shut))]
 fn just_opened(open: Open, nodes: usize, places: Places) -> Record
     ensures { result ≡ opened_at «open» nodes places }
 {
-    let points = places.points;
+    let Places { count, points } = places;
     Record {
         held: true,
-        open: open,
-        nodes: nodes,
-        count: places.count,
-        points: points,
-        rank: 0,
-        round: 0,
-        circles: 0,
-        evaluations: 0,
+        open,
+        nodes,
+        count,
+        points,
+        ..Record::empty()
     }
 }
 
@@ -136,22 +124,17 @@ fn exchange_row(
     sets: &mut [u64],
     earlier: &mut [u64],
 ) -> Result<Record, Refusal>
-    requires grounded { Grounded table.now (lent held.old held_owns.old sets.old earlier.old) «record» }
-    requires held_sound { held_refusal table.now (lent held.old held_owns.old sets.old earlier.old) «record» ≡ 0 }
-    requires named { Named «record» (bare_row (named_points points)) }
+    requires { Pointed table.now (lent held.old held_owns.old sets.old earlier.old) «record» points }
     ensures { PointsLeave table.now (lent held.old held_owns.old sets.old earlier.old) «record» points new.now new_owns.now result (lent held.new held_owns.new sets.new earlier.new) }
 {
     let nodes = record.nodes;
-    let cuts = cuts_of(table, &held[..nodes], points);
-    judge_replaced(table, &held[..nodes], points, cuts, new, new_owns)?;
+    let tree = &held[..nodes];
+    let cuts = cuts_of(table, tree, points);
+    judge_replaced(table, tree, points, cuts, new, new_owns)?;
     let count = place_row(
         table, nodes, points, cuts, new, new_owns, held, held_owns, sets, earlier,
     );
-    Ok(just_opened(
-        Open::Replacement,
-        count,
-        shift_points(cuts),
-    ))
+    Ok(just_opened(Open::Replacement, count, shift_points(cuts)))
 }
 
 // A replacement at several points over a judged table, buffers that are long enough, a record within its limits and a tree that is sound if held.

@@ -3,9 +3,13 @@ use Rattle.std.specs.Prelude.{◌≡◌, true, false, List, ℕ, ◌≤◌, leng
 use Rattle.tree.specs.declared.Point.{Point}
 use Rattle.tree.specs.declared.Places.{Places}
 use Rattle.tree.specs.declared.Cuts.{Cuts}
+use Rattle.tree.specs.Handed.{named_points, bare_row}
 use Rattle.update.specs.declared.Open.{Open}
 use Rattle.update.specs.declared.Record.{Record}
+use Rattle.update.specs.Memories.{Memory}
 use Rattle.update.specs.Records.{padded}
+use Rattle.update.specs.Refusals.{held_refusal}
+use Rattle.update_judge.specs.Order.{Grounded, Named}
 use Rattle.update_judge.specs.Inner.Cuts.{named_cuts, meeting, coming, Small}
 use Rattle.tree.specs.Tree.{nodes_most}
 
@@ -26,3 +30,9 @@ pub record Shiftable (cs : Cuts) : Type 0 where
   pub small : Small nodes_most cs
   pub apart : meeting 0 (named_cuts cs) ≡ false
   pub few : coming (named_cuts cs) ≤ nodes_most
+
+-- 9.3, 9.10: the points are nodes of a sound tree that is held
+pub record Pointed (t : List ℕ) (m : Memory) (r : Record) (points : Places) : Type 0 where
+  pub grounded : Grounded t m r
+  pub sound : held_refusal t m r ≡ 0
+  pub named : Named r (bare_row (named_points points))
