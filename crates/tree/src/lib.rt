@@ -11,7 +11,7 @@ ghost use Rattle.tree.specs.Inner.Says.{Says};
 ghost use Rattle.tree.specs.Inner.Spans.{Numbers, Ended, Spans};
 
 use refusal::Refusal;
-use table::{child_count, child_of, left_of, production_count};
+use table::{WORDS, child_count, child_of, left_of, production_count};
 use table_judge::judge_table;
 
 // So many nodes a tree has at the most.
@@ -56,7 +56,7 @@ pub fn index(x: u8) -> usize
 // Reads one subtree of `symbol` at `at`: a node, and behind it the row of its children. Where what it read ends, or what is wrong there.
 #[cycle(row_subtree)]
 fn subtree(
-    table: &[u64; 2657],
+    table: &[u64; WORDS],
     productions: &[u8],
     at: usize,
     symbol: usize,
@@ -68,7 +68,7 @@ fn subtree(
     if productions.len() <= at {
         return Err(Refusal::Shape);
     }
-    let p = index(productions[at]);
+    let p = usize::from(productions[at]);
     if production_count(table) <= p {
         return Err(Refusal::Production);
     }
@@ -81,7 +81,7 @@ fn subtree(
 // Reads the row of a production's children from child `child` on, each by the reading of a subtree. What is unread falls from call to call.
 #[cycle(row_subtree)]
 fn row(
-    table: &[u64; 2657],
+    table: &[u64; WORDS],
     productions: &[u8],
     at: usize,
     production: usize,
@@ -102,7 +102,7 @@ fn row(
 }
 
 // Judges nodes over a judged table: whether they are one subtree of `symbol`, and nothing behind it.
-pub fn judge_nodes(table: &[u64; 2657], productions: &[u8], symbol: usize) -> Result<(), Refusal>
+pub fn judge_nodes(table: &[u64; WORDS], productions: &[u8], symbol: usize) -> Result<(), Refusal>
     requires { Limits table.now }
     ensures { verdict_of result ≡ judge_nodes table.now productions.now (symbol ∷ []) }
 {
@@ -110,7 +110,7 @@ pub fn judge_nodes(table: &[u64; 2657], productions: &[u8], symbol: usize) -> Re
     if productions.len() <= next {
         return Ok(());
     }
-    let over = index(productions[next]);
+    let over = usize::from(productions[next]);
     if production_count(table) <= over {
         return Err(Refusal::Production);
     }
@@ -118,7 +118,7 @@ pub fn judge_nodes(table: &[u64; 2657], productions: &[u8], symbol: usize) -> Re
 }
 
 // The same of the first `n` nodes of a longer slice.
-pub fn judge_held(table: &[u64; 2657], held: &[u8], n: usize, symbol: usize) -> Result<(), Refusal>
+pub fn judge_held(table: &[u64; WORDS], held: &[u8], n: usize, symbol: usize) -> Result<(), Refusal>
     requires limits { Limits table.now }
     requires n_in_bounds { n ≤ length held.now }
     ensures { verdict_of result ≡ judge_nodes table.now (take n held.now) (symbol ∷ []) }
@@ -127,7 +127,7 @@ pub fn judge_held(table: &[u64; 2657], held: &[u8], n: usize, symbol: usize) -> 
 }
 
 // Judges a table and a tree that is handed in, whose root is to be of symbol 0.
-pub fn judge_tree(table: &[u64; 2657], productions: &[u8], owns: &[u64]) -> Result<(), Refusal>
+pub fn judge_tree(table: &[u64; WORDS], productions: &[u8], owns: &[u64]) -> Result<(), Refusal>
     ensures { JudgeTreeSays table.now productions.now owns.now result }
 {
     judge_table(table)?;
@@ -141,37 +141,34 @@ pub fn judge_tree(table: &[u64; 2657], productions: &[u8], owns: &[u64]) -> Resu
 }
 
 // The end of node `at`'s subtree, where `ends` has those of the nodes behind it: from child to child.
-fn end_of(table: &[u64; 2657], productions: &[u8], ends: &[u16], at: usize) -> usize
+#[tactic(auto, using(crate::proofs::Size::turn_first, crate::proofs::Size::turn_next, crate::proofs::Size::turn_last))]
+fn end_of(table: &[u64; WORDS], productions: &[u8], ends: &[u16], at: usize) -> usize
     requires at_in_bounds { at < length productions.now }
     requires productions_len_bound { (length productions.now ≤ nodes_most) × (length productions.now ≤ length ends.now) }
     requires numbers { Numbers productions.now }
     requires ended { Ended table.now productions.now (at + 1) ends.now }
     ensures { result ≡ span_end table.now productions.now at }
 {
-    let p = index(productions[at]);
+    let p = usize::from(productions[at]);
     let count = child_count(table, p);
     let mut next = at + 1;
-    let mut child = 0;
-    while child < count {
+    for _ in 0..count {
         if productions.len() <= next {
             return next;
         }
-        next = ends[next] as usize;
-        child += 1;
+        next = usize::from(ends[next]);
     }
     next
 }
 
 // Writes the end of each node's subtree, from the last node to the first: each node looks at its children alone.
-pub fn spans(table: &[u64; 2657], productions: &[u8], ends: &mut [u16])
+#[tactic(auto, using(crate::proofs::Size::end_le))]
+pub fn spans(table: &[u64; WORDS], productions: &[u8], ends: &mut [u16])
     requires productions_len_bound { (length productions.now ≤ nodes_most) × (length productions.now ≤ length ends.old) }
     requires numbers { Numbers productions.now }
     ensures { Spans table.now productions.now ends.old ends.new }
 {
-    let mut at = productions.len();
-    while 0 < at {
-        at -= 1;
-        let end = end_of(table, productions, &*ends, at);
-        ends[at] = end as u16;
+    for at in (0..productions.len()).rev() {
+        ends[at] = end_of(table, productions, ends, at) as u16;
     }
 }

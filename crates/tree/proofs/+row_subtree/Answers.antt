@@ -24,8 +24,8 @@ subtree-returns-then-production_count-p t c = λ ss. judge_number c.args.table.n
 
 pub subtree-returns-then-left_of-symbol : goal.subtree-returns-then-left_of-symbol
 subtree-returns-then-left_of-symbol t c =
-    λ ss. judge_wrong c.args.table.now c.args.productions.now c.args.at (omega arith) c.args.symbol ss (omega arith) (λ e. omega (arith, ap (left_of c.args.table.now) c.index-p.ensures.0))
+    λ ss. judge_wrong c.args.table.now c.args.productions.now c.args.at (omega arith) c.args.symbol ss (omega arith) (λ e. omega (arith, ap (left_of c.args.table.now) c.from-p.ensures))
 
 pub subtree-returns : goal.subtree-returns
 subtree-returns t c =
-    subtree_goes c.args.table.now c.args.productions.now c.args.at c.args.symbol c.index-p.result (omega arith) c.index-p.ensures.0 (omega arith) (omega arith) c.row.result c.row.ensures
+    subtree_goes c.args.table.now c.args.productions.now c.args.at c.args.symbol c.from-p.result (omega arith) c.from-p.ensures (omega arith) (omega arith) c.row.result c.row.ensures
