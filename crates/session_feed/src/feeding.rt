@@ -13,6 +13,7 @@ ghost use Rattle.table.specs.Words.{table_words};
 ghost use Rattle.update.specs.Memories.{lent};
 
 use crate::Fed;
+use circles::SLOTS;
 use refusal::Refusal;
 use session_line::hear;
 use session_memory::{State, copy_in, copy_out, gather, is_narrow, judge_state};
@@ -38,14 +39,14 @@ fn work<'a>(
     requires printed_in_bounds { printed ≤ length out.old }
     ensures { RoundsTold table.now (lent held.now held_owns.now sets.old earlier.now) «record» turns printed out.old result (lent held.now held_owns.now sets.new earlier.now) out.new }
 {
-    let mut a = [0u16; 4096];
-    let mut b = [0u16; 4096];
-    let mut left = [0u16; 4096];
-    let mut rule = [0u16; 4096];
-    let mut label = [0u16; 4096];
-    let mut members = [0u16; 4096];
-    let mut ends = [0u16; 4097];
-    let mut values = [0u64; 4096];
+    let mut a = [0u16; SLOTS];
+    let mut b = [0u16; SLOTS];
+    let mut left = [0u16; SLOTS];
+    let mut rule = [0u16; SLOTS];
+    let mut label = [0u16; SLOTS];
+    let mut members = [0u16; SLOTS];
+    let mut ends = [0u16; SLOTS + 1];
+    let mut values = [0u64; SLOTS];
     tell_rounds(
         table,
         record,

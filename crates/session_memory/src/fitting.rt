@@ -20,7 +20,7 @@ use update::Record;
 use update_judge::{judge_ground, judge_holding, judge_step};
 
 // What a line can print, and more.
-const OUT: usize = 131_072;
+pub const OUT: usize = 131_072;
 
 // No command's first line announces more points, and no point's line more nodes.
 const POINTS: usize = 255;

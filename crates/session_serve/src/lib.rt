@@ -7,7 +7,12 @@ ghost use Rattle.session_serve.specs.Serving.{IsPrefixLen, Served, PieceServed, 
 ghost use Rattle.update.specs.Memories.{lent};
 
 use session_feed::{Fed, State, feed, finish, start};
+use session_memory::OUT;
+use session_owed::{PART_OWNS, PARTS};
 use std::io::{Read, Write};
+use table::WORDS;
+use text_line::AHEAD;
+use update::Record;
 
 // Prints the first bytes of a buffer, and says whether that could be done.
 fn print<W: Write>(output: &mut W, out: &[u8], printed: usize) -> bool {
@@ -152,18 +157,21 @@ fn take_pieces<R: Read, W: Write>(
     }
 }
 
+// No piece is longer.
+const READ: usize = 65_536;
+
 // The whole session.
 pub fn serve<R: Read, W: Write>(input: &mut R, output: &mut W) {
-    let mut words = [0u64; 2657];
-    let mut window = [0u8; 29];
-    let mut parts = [0u8; 513];
-    let mut part_owns = [0u64; 521];
-    let mut held = [0u8; 512];
-    let mut held_owns = [0u64; 512];
-    let mut sets = [0u64; 4096];
-    let mut earlier = [0u64; 4096];
-    let mut buffer = [0u8; 65_536];
-    let mut out = [0u8; 131_072];
+    let mut words = [0u64; WORDS];
+    let mut window = [0u8; AHEAD];
+    let mut parts = [0u8; PARTS];
+    let mut part_owns = [0u64; PART_OWNS];
+    let mut held = [0u8; Record::NODES];
+    let mut held_owns = [0u64; Record::NODES];
+    let mut sets = [0u64; Record::SETS];
+    let mut earlier = [0u64; Record::SETS];
+    let mut buffer = [0u8; READ];
+    let mut out = [0u8; OUT];
     take_pieces(
         input,
         output,
