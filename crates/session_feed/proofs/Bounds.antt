@@ -17,8 +17,9 @@ use Rattle.text_frame.specs.declared.Frame.{Frame}
 use Rattle.text_frame.specs.declared.Frame.TheVariants as frame
 use Rattle.text_frame.specs.declared.Change.{Change}
 use Rattle.text_frame.specs.declared.Change.TheVariants as change
-use Rattle.text_table.specs.declared.Taken.{Taken}
-use Rattle.text_table.specs.declared.Taken.TheVariants.{Next, Stopped as StoppedAt}
+use Rattle.std.specs.Prelude.{Result, Ok, Err}
+use Rattle.text_frame.specs.declared.Expected.{Expected}
+use Rattle.text_frame.specs.declared.Misread.{Misread}
 use Rattle.text_table.specs.Read.{words_after, taken_at}
 use Rattle.text_table.proofs.Readings.{words_length}
 use Rattle.update_judge.specs.Order.{Holding}
@@ -141,9 +142,9 @@ nodes coming count taken at frame.Dump line t ps os m r = stops t ps os m r 14 l
 nodes coming count taken at (frame.Refused refusal own) line t ps os m r = stops t ps os m r (number_of refusal) own
 nodes coming count taken at frame.Over line t ps os m r = stops t ps os m r 14 line
 
-tables : (t w ps os : List ℕ) (m : Memory) (x : Taken) → length w ≡ length t → Modest t ps os m (tabled w ps os m x)
-tables t w ps os m (Next y) e = record { words = e; parts = refl; owns = refl; memory = lengths_self m; few = omega arith }
-tables t w ps os m (StoppedAt refusal line) e = record { words = e; parts = refl; owns = refl; memory = lengths_self m; few = omega (arith, refusal_length (number_of refusal) line) }
+tables : (t w ps os : List ℕ) (m : Memory) (x : Result Expected Misread) → length w ≡ length t → Modest t ps os m (tabled w ps os m x)
+tables t w ps os m (Ok y) e = record { words = e; parts = refl; owns = refl; memory = lengths_self m; few = omega arith }
+tables t w ps os m (Err q) e = record { words = e; parts = refl; owns = refl; memory = lengths_self m; few = omega (arith, refusal_length (number_of q.refusal) q.line) }
 
 pub heard_modest : (awaited : Awaited) (f : Frame) (line : ℕ) (t ps os : List ℕ) (m : Memory) (r : Record) → Sound awaited t os m r → Modest t ps os m (hearing awaited f line t ps os m r)
 unfolding hearing

@@ -1,6 +1,6 @@
 -- From one state of a session to the next: bytes that are gathered, a line that is heard, rounds that are told; and turns in a row. Assumes nothing.
 use mathlib.Core.Path.{◌≡◌, refl, ap, sym, ◌∙◌, subst}
-use mathlib.Core.Bool.{Bool, true, false, true≢false}
+use mathlib.Core.Bool.{Bool, true, false, true≢false, cond}
 use mathlib.Core.List.{List, [], ◌∷◌, ◌++◌, append-nil, append_assoc}
 use Prim.Native.Nat.{ℕ, suc, ◌+◌, ◌-◌, ◌≤◌, ◌<◌}
 use native.Mathlib.Omega.{arith}
@@ -35,7 +35,7 @@ use Rattle.session_memory.proofs.Refusing.{given_wide, all_state_gives}
 use Rattle.session_feed.proofs.Bounds.{Modest, heard_modest}
 use Rattle.session_feed.specs.Running as running
 use Rattle.session_feed.specs.Running.{Moment, silent, moment, moment_of, after_rounds, Goes, Runs}
-use Rattle.session_feed.specs.Inner.Faring.{Ready, Sized, Fares, at_work, Turns}
+use Rattle.session_feed.specs.Inner.Faring.{Ready, Sized, Fares, at_work, to_do, Turns}
 use Rattle.refusal.specs.Orders.{refusal_by}
 
 -- ---- turns in a row
@@ -53,20 +53,6 @@ module _ {d e f : Suspended} {piece : List ℕ} {a b c : ℕ} {out out' out'' : 
     next = omega (arith, x.next, y.next, length-append x.text y.text);
     within = y.within;
   }
-
-pub sized_on : {d e f : Suspended} → Sized d e → Sized e f → Sized d f
-sized_on x y = record {
-  window = y.window ∙ x.window;
-  parts = y.parts ∙ x.parts;
-  part_owns = y.part_owns ∙ x.part_owns;
-  productions = y.productions ∙ x.productions;
-  owns = y.owns ∙ x.owns;
-  sets_size = y.sets_size ∙ x.sets_size;
-  earlier = y.earlier ∙ x.earlier;
-}
-
-pub sized_none : (d : Suspended) → Sized d d
-sized_none d = record { window = refl; parts = refl; part_owns = refl; productions = refl; owns = refl; sets_size = refl; earlier = refl }
 
 -- ---- a call's turns, one by one
 
@@ -137,6 +123,30 @@ module _ {d d' : Suspended} {piece : List ℕ} {from place printed : ℕ} {out o
     runs = over_tables true runs;
     words_rest = nothing_behind;
   }
+
+-- a call so far: it goes on, or its last turn has left nothing to do
+pub record Gone (d : Suspended) (piece : List ℕ) (from : ℕ) (out : List ℕ) (d' : Suspended) (place : ℕ) (out' : List ℕ) (printed : ℕ) (more : Bool) : Type 0 where
+  pub fares : Fares d piece from out 0 d' place out' printed
+  pub since : more ≡ true → Since d piece from out (moment d' place out' printed)
+  pub fed : more ≡ false → Feeds d piece from out d' place printed false out'
+
+abbrev pub left_to_do : Suspended → List ℕ → ℕ → List ℕ → ℕ → Bool → ℕ
+left_to_do d piece place out printed more = cond more (suc (to_do d piece place out printed)) 0
+
+pub gone_first : (d : Suspended) (piece : List ℕ) (from : ℕ) (out : List ℕ) → Ready d out → Gone d piece from out d from out 0 true
+gone_first d piece from out h = record { fares = fares_none d piece from out 0 h (omega arith); since = λ m. since_first d piece from out h; fed = λ m. absurd (true≢false m) }
+
+module _ {d e e' : Suspended} {piece : List ℕ} {from a b printed printed' : ℕ} {out o o' : List ℕ} {more more' : Bool}
+    (g : Gone d piece from out e a o printed more) (m : more ≡ true) where
+  pub gone_on : Spacious o printed → Turns e piece a o printed e' b o' printed' more' → Gone d piece from out e' b o' printed' more'
+  gone_on space t =
+      let f = fares_on g.fares t.fares in
+      let s = g.since m in
+      record { fares = f; since = since_on s space t; fed = λ h. fed_all f s.size (since_last s space t h) (t.idle h) (t.used h) }
+
+-- where what a line can print has no room
+pub gone_full : {d e : Suspended} {piece : List ℕ} {from a printed : ℕ} {out o : List ℕ} {more : Bool} → Gone d piece from out e a o printed more → more ≡ true → (printed + 94208 ≤ length o → ⊥) → Feeds d piece from out e a printed true o
+gone_full g m h = let s = g.since m in fed_full g.fares s.size (since_full s h) h
 
 pub fares_out : {d d' : Suspended} {piece : List ℕ} {from place printed : ℕ} {out out' : List ℕ} → Fares d piece from out 0 d' place out' printed → length out' ≡ length out
 fares_out {out = out} x = ap length x.shown ∙ length-sets out 0 x.text

@@ -7,6 +7,7 @@ use Prim.Native.Nat.{ℕ, ◌+◌, ◌-◌, ◌≤◌, ◌<◌}
 use native.Mathlib.Omega.{arith}
 use lib.ListN.{length, get_or, take, drop, length-append, length-drop, take-append-drop}
 use lib.Seq.{length-take-le, get_or-take, take-take, take-append-add}
+use Rattle.std.specs.Prelude.{Result, Ok, Err}
 use Rattle.refusal.specs.Only.{After}
 use Rattle.refusal.specs.Numbers.{number_of}
 use Rattle.refusal.specs.declared.Refusal.{Refusal}
@@ -19,7 +20,7 @@ use Rattle.session_memory.specs.declared.State.{State}
 use Rattle.session_memory.specs.Suspended.{Suspended}
 use Rattle.session_memory.specs.Gathering.{Gathers}
 use Rattle.session_feed.specs.declared.Fed.{Fed}
-use Rattle.session_feed.specs.Feeding.{fed_to, fed_nothing, Feeds, FeedSays, takes, refuses}
+use Rattle.session_feed.specs.Feeding.{fed_to, Feeds, FeedSays, takes, refuses}
 use Rattle.session_feed.specs.Unique.{Lent, desk_of, FeedsOne}
 use Rattle.session_feed.specs.Running.{Moment, silent, after_rounds, rounds_then, after_bytes, heard_then, after_line, Goes, over, works, waits, hears, Runs, full, last, on}
 
@@ -167,7 +168,7 @@ runs_one {piece = piece} {r = r} {b = b} (on s g x) (on s' g' x') = runs_one x (
 
 -- ---- an answer
 
-abbrev found : Fed → Lent → List ℕ → After Fed (After Lent (List ℕ))
+abbrev found : Result Fed Refusal → Lent → List ℕ → After (Result Fed Refusal) (After Lent (List ℕ))
 found x b o = record { answer = x; found = record { answer = b; found = o } }
 
 abbrev lent_of : Suspended → Lent
@@ -175,25 +176,25 @@ lent_of d = record { words = d.words; window = d.window; parts = d.parts; part_o
 
 module _ {d : Suspended} {piece : List ℕ} {from : ℕ} {out : List ℕ} {b c : Lent} {o o' : List ℕ} where
   taken_one : {s s' : State} {place place' printed printed' : ℕ} {more more' : Bool} → Feeds d piece from out (desk_of b s) place printed more o
-      → Feeds d piece from out (desk_of c s') place' printed' more' o' → found (fed_to s place printed more) b o ≡ found (fed_to s' place' printed' more') c o'
+      → Feeds d piece from out (desk_of c s') place' printed' more' o' → found (Ok (fed_to s place printed more)) b o ≡ found (Ok (fed_to s' place' printed' more')) c o'
   taken_one f f' =
       let e = runs_one f.runs f'.runs in
       let m = e.moments in
       let words : b.words ≡ c.words =
       sym (take-append-drop 2657 b.words) ∙ (λ j. (m j).here.words ++ (f.words_rest ∙ sym f'.words_rest) j) ∙ take-append-drop 2657 c.words in
-      (λ j. found (fed_to (m j).here.state (m j).place (m j).printed (e.mores j))
+      (λ j. found (Ok (fed_to (m j).here.state (m j).place (m j).printed (e.mores j)))
       (record { words = words j; window = (m j).here.window; parts = (m j).here.parts; part_owns = (m j).here.part_owns; memory = (m j).here.memory }) (m j).out)
 
-refused_one : (d : Suspended) (from : ℕ) {out : List ℕ} {b c : Lent} {o o' : List ℕ} {q q' : Refusal} → number_of q ≡ number_of q' → desk_of b d.state ≡ d → o ≡ out
-    → desk_of c d.state ≡ d → o' ≡ out → found (fed_nothing d.state from q) b o ≡ found (fed_nothing d.state from q') c o'
-refused_one d from {q = q} {q' = q'} n e f e' f' j = found (fed_nothing d.state from (number_one q q' n j)) (lent_of ((e ∙ sym e') j)) ((f ∙ sym f') j)
+refused_one : (d : Suspended) {out : List ℕ} {b c : Lent} {o o' : List ℕ} {q q' : Refusal} → number_of q ≡ number_of q' → desk_of b d.state ≡ d → o ≡ out
+    → desk_of c d.state ≡ d → o' ≡ out → found (Err q) b o ≡ found (Err q') c o'
+refused_one d {q = q} {q' = q'} n e f e' f' j = found (Err (number_one q q' n j)) (lent_of ((e ∙ sym e') j)) ((f ∙ sym f') j)
 
-says_one : {d : Suspended} {piece : List ℕ} {from : ℕ} {out : List ℕ} {b c : Lent} {o o' : List ℕ} {x y : Fed} → FeedSays d piece from out (desk_of b) o x
+says_one : {d : Suspended} {piece : List ℕ} {from : ℕ} {out : List ℕ} {b c : Lent} {o o' : List ℕ} {x y : Result Fed Refusal} → FeedSays d piece from out (desk_of b) o x
     → FeedSays d piece from out (desk_of c) o' y → found x b o ≡ found y c o'
 says_one (takes z f g) (takes z' f' g') = taken_one g g'
 says_one (takes z f g) (refuses {q = q} n e u) = let k = number_low q in absurd (omega arith)
 says_one (refuses {q = q} n e u) (takes z f g) = let k = number_low q in absurd (omega arith)
-says_one {d = d} {from = from} (refuses n e u) (refuses n' e' u') = refused_one d from (sym n ∙ n') e u e' u'
+says_one {d = d} (refuses n e u) (refuses n' e' u') = refused_one d (sym n ∙ n') e u e' u'
 
 pub feeds_one : FeedsOne
 feeds_one d piece from out = record { one = λ x y p q. says_one p q }

@@ -13,26 +13,19 @@ ghost use Rattle.table.specs.Words.{table_words};
 ghost use Rattle.update.specs.Memories.{lent};
 
 use crate::Fed;
+use circles::SLOTS;
 use refusal::Refusal;
 use session_line::hear;
-use session_memory::{State, copy_in, copy_out, gather, is_narrow, is_stopped, judge_state};
+use session_memory::{State, copy_in, copy_out, gather, is_narrow, judge_state};
 use session_owed::{Awaited, Told};
 use session_rounds::tell_rounds;
+use table::WORDS;
 use text_frame::{frame_at, line_after};
 use update::Record;
 
-// What a turn leads to: how far the piece is taken, where the next byte is printed, and whether there is more to do.
-#[derive(Clone, Copy)]
-struct Turned {
-    state: State,
-    place: usize,
-    printed: usize,
-    more: bool,
-}
-
 // The rounds of the open update, as many as there is room for.
 fn work<'a>(
-    table: &'a [u64; 2657],
+    table: &'a [u64; WORDS],
     record: Record,
     turns: u64,
     held: &'a [u8],
@@ -46,14 +39,14 @@ fn work<'a>(
     requires printed_in_bounds { printed ≤ length out.old }
     ensures { RoundsTold table.now (lent held.now held_owns.now sets.old earlier.now) «record» turns printed out.old result (lent held.now held_owns.now sets.new earlier.now) out.new }
 {
-    let mut a = [0u16; 4096];
-    let mut b = [0u16; 4096];
-    let mut left = [0u16; 4096];
-    let mut rule = [0u16; 4096];
-    let mut label = [0u16; 4096];
-    let mut members = [0u16; 4096];
-    let mut ends = [0u16; 4097];
-    let mut values = [0u64; 4096];
+    let mut a = [0u16; SLOTS];
+    let mut b = [0u16; SLOTS];
+    let mut left = [0u16; SLOTS];
+    let mut rule = [0u16; SLOTS];
+    let mut label = [0u16; SLOTS];
+    let mut members = [0u16; SLOTS];
+    let mut ends = [0u16; SLOTS + 1];
+    let mut values = [0u64; SLOTS];
     tell_rounds(
         table,
         record,
@@ -77,7 +70,7 @@ fn work<'a>(
 
 // A line that is whole: the first bytes of the window.
 fn hear_line(
-    table: &mut [u64; 2657],
+    table: &mut [u64; WORDS],
     state: State,
     window: &[u8],
     begun: usize,
@@ -95,20 +88,27 @@ fn hear_line(
     requires begun_in_bounds { begun ≤ length window.now }
     ensures { Hears (hearing state.awaited (frame_at (take begun window.now) 0 state.line).frame state.line table.old parts.old part_owns.old (lent held.old held_owns.old sets.old earlier.old) state.«record») result printed out.old out.new table.new parts.new part_owns.new (lent held.new held_owns.new sets.new earlier.new) }
 {
-    let awaited = state.awaited;
-    let record = state.record;
-    let line = state.line;
-    let step = frame_at(&window[..begun], 0, line);
-    let frame = step.frame;
+    let frame = frame_at(&window[..begun], 0, state.line).frame;
     hear(
-        table, awaited, record, line, frame, parts, part_owns, held, held_owns, sets, earlier, out,
+        table,
+        state.awaited,
+        state.record,
+        state.line,
+        frame,
+        parts,
+        part_owns,
+        held,
+        held_owns,
+        sets,
+        earlier,
+        out,
         printed,
     )
 }
 
 // Bytes of the piece, and the line that they make whole.
 fn listen(
-    table: &mut [u64; 2657],
+    table: &mut [u64; WORDS],
     state: State,
     window: &mut [u8],
     parts: &mut [u8],
@@ -121,41 +121,33 @@ fn listen(
     from: usize,
     out: &mut [u8],
     printed: usize,
-) -> Turned
+) -> Fed
     requires { Ready (suspended table.old window.old parts.old part_owns.old (lent held.old held_owns.old sets.old earlier.old) state) out.old × Spacious out.old printed × (silent state.awaited ≡ false) }
     ensures { Turns (suspended table.old window.old parts.old part_owns.old (lent held.old held_owns.old sets.old earlier.old) state) piece.now from out.old printed (suspended table.new window.new parts.new part_owns.new (lent held.new held_owns.new sets.new earlier.new) result.state) result.place out.new result.printed result.more }
 {
     let g = gather(piece, from, window, state.begun);
     if !g.whole {
-        let awaited = state.awaited;
-        let record = state.record;
-        let waiting = State {
-            awaited: awaited,
-            begun: g.begun,
-            line: state.line,
-            record: record,
-        };
-        return Turned {
-            state: waiting,
+        return Fed {
+            state: State {
+                begun: g.begun,
+                ..state
+            },
             place: g.place,
-            printed: printed,
+            printed,
             more: false,
         };
     }
     let told = hear_line(
-        table, state, &*window, g.begun, parts, part_owns, held, held_owns, sets, earlier, out,
+        table, state, window, g.begun, parts, part_owns, held, held_owns, sets, earlier, out,
         printed,
     );
-    let awaited = told.awaited;
-    let record = told.record;
-    let next = State {
-        awaited: awaited,
-        begun: 0,
-        line: line_after(state.line),
-        record: record,
-    };
-    Turned {
-        state: next,
+    Fed {
+        state: State {
+            awaited: told.awaited,
+            begun: 0,
+            line: line_after(state.line),
+            record: told.record,
+        },
         place: g.place,
         printed: told.printed,
         more: true,
@@ -164,7 +156,7 @@ fn listen(
 
 // Rounds while an update is at work, else a line; nothing behind the session's end.
 fn turn(
-    table: &mut [u64; 2657],
+    table: &mut [u64; WORDS],
     state: State,
     window: &mut [u8],
     parts: &mut [u8],
@@ -177,51 +169,45 @@ fn turn(
     from: usize,
     out: &mut [u8],
     printed: usize,
-) -> Turned
+) -> Fed
     requires { Ready (suspended table.old window.old parts.old part_owns.old (lent held.old held_owns.old sets.old earlier.old) state) out.old × Spacious out.old printed }
     ensures { Turns (suspended table.old window.old parts.old part_owns.old (lent held.old held_owns.old sets.old earlier.old) state) piece.now from out.old printed (suspended table.new window.new parts.new part_owns.new (lent held.new held_owns.new sets.new earlier.new) result.state) result.place out.new result.printed result.more }
 {
-    let awaited = state.awaited;
-    if let Awaited::Working { turns } = awaited {
-        let record = state.record;
-        let told = work(
-            &*table,
-            record,
-            turns,
-            &*held,
-            &*held_owns,
-            sets,
-            &*earlier,
-            out,
+    match state.awaited {
+        Awaited::Working { turns } => {
+            let told = work(
+                table,
+                state.record,
+                turns,
+                held,
+                held_owns,
+                sets,
+                earlier,
+                out,
+                printed,
+            );
+            Fed {
+                state: State {
+                    awaited: told.awaited,
+                    record: told.record,
+                    ..state
+                },
+                place: from,
+                printed: told.printed,
+                more: true,
+            }
+        }
+        Awaited::Stopped => Fed {
+            state,
+            place: from,
             printed,
-        );
-        let now = told.awaited;
-        let left = told.record;
-        let next = State {
-            awaited: now,
-            begun: state.begun,
-            line: state.line,
-            record: left,
-        };
-        return Turned {
-            state: next,
-            place: from,
-            printed: told.printed,
-            more: true,
-        };
-    }
-    if is_stopped(awaited) {
-        return Turned {
-            state: state,
-            place: from,
-            printed: printed,
             more: false,
-        };
+        },
+        _ => listen(
+            table, state, window, parts, part_owns, held, held_owns, sets, earlier, piece, from,
+            out, printed,
+        ),
     }
-    listen(
-        table, state, window, parts, part_owns, held, held_owns, sets, earlier, piece, from, out,
-        printed,
-    )
 }
 
 // No line prints more: every set of a full tree.
@@ -231,18 +217,12 @@ const ROOM: usize = 94_208;
 fn has_room(size: usize, printed: usize) -> bool
     ensures { Tests result (printed + line_room ≤ size) }
 {
-    if size < printed {
-        return false;
-    }
-    if size - printed < ROOM {
-        return false;
-    }
-    true
+    printed <= size && ROOM <= size - printed
 }
 
 // Turns until there is nothing left to do, or what a line can print has no room.
 fn feed_sound(
-    table: &mut [u64; 2657],
+    table: &mut [u64; WORDS],
     state: State,
     window: &mut [u8],
     parts: &mut [u8],
@@ -254,36 +234,34 @@ fn feed_sound(
     piece: &[u8],
     from: usize,
     out: &mut [u8],
-) -> Turned
+) -> Fed
     requires { Ready (suspended table.old window.old parts.old part_owns.old (lent held.old held_owns.old sets.old earlier.old) state) out.old }
     ensures { Feeds (suspended table.old window.old parts.old part_owns.old (lent held.old held_owns.old sets.old earlier.old) state) piece.now from out.old (suspended table.new window.new parts.new part_owns.new (lent held.new held_owns.new sets.new earlier.new) result.state) result.place result.printed result.more out.new × (length table.new ≡ table_words) }
 {
-    let mut now = state;
-    let mut at = from;
-    let mut printed: usize = 0;
-    while has_room(out.len(), printed) {
-        let t = turn(
-            table, now, window, parts, part_owns, held, held_owns, sets, earlier, piece, at, out,
-            printed,
-        );
-        now = t.state;
-        at = t.place;
-        printed = t.printed;
-        if !t.more {
-            return Turned {
-                state: now,
-                place: at,
-                printed: printed,
-                more: false,
-            };
-        }
-    }
-    Turned {
-        state: now,
-        place: at,
-        printed: printed,
+    let mut now = Fed {
+        state,
+        place: from,
+        printed: 0,
         more: true,
+    };
+    while now.more && has_room(out.len(), now.printed) {
+        now = turn(
+            table,
+            now.state,
+            window,
+            parts,
+            part_owns,
+            held,
+            held_owns,
+            sets,
+            earlier,
+            piece,
+            now.place,
+            out,
+            now.printed,
+        );
     }
+    now
 }
 
 // One call: as much of the piece as the room for printing allows; or why the memory can't be a session's, and then all is as it was.
@@ -308,7 +286,7 @@ pub fn feed(
     ) {
         return Err(Refusal::Buffer);
     }
-    let mut table = [0u64; 2657];
+    let mut table = [0u64; WORDS];
     copy_in(words, &mut table);
     judge_state(
         &table, state, window, part_owns, held, held_owns, sets, earlier,
@@ -318,10 +296,5 @@ pub fn feed(
         out,
     );
     copy_out(&table, words);
-    Ok(Fed {
-        state: fed.state,
-        place: fed.place,
-        printed: fed.printed,
-        more: fed.more,
-    })
+    Ok(fed)
 }

@@ -6,7 +6,7 @@ mod feeding;
 pub use feeding::feed;
 pub use session_memory::{State, finish, start};
 
-// How far the piece was taken, how many bytes are to be printed, and whether there is more to do.
+// How far the piece is taken, how many bytes are to be printed, and whether there is more to do.
 #[derive(Clone, Copy)]
 pub struct Fed {
     pub state: State,

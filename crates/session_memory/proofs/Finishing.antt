@@ -9,14 +9,13 @@ use borrow.Author.Tests.{le-leb, lt-leb}
 use lib.Dec.{eqb}
 use lib.ListN.{length}
 use lib.Seq.{sets}
+use Rattle.std.specs.Prelude.{Result, Ok, Err}
 use Rattle.refusal.specs.Numbers.{number_of}
 use Rattle.refusal.specs.declared.Refusal.{Refusal}
 use Rattle.refusal.specs.declared.Refusal.TheVariants as why
 use Rattle.refusal.proofs.Distinct.{number_one, number_low}
 use Rattle.refusal.specs.Orders.{when}
 use Rattle.text_frame.specs.Out.{refusal_text}
-use Rattle.text_frame.specs.declared.Written.{Written}
-use Rattle.text_frame.specs.declared.Written.TheVariants.{Length, Refused as NotWritten}
 use Rattle.text_frame.proofs.Printed.{refusal_length}
 use Rattle.text_tree.specs.Written.{refusal_of, written_of, buffer_after}
 use Rattle.text_tree.proofs.Refusing.{writes_exactly}
@@ -66,35 +65,35 @@ stopped_text awaited begun line e = rw e
 
 module _ (out : List ℕ) (n line : ℕ) where
   -- what is answered for it, and what the buffer is then
-  abbrev Puts : Written → List ℕ → Type 0
+  abbrev Puts : Result ℕ Refusal → List ℕ → Type 0
   Puts r out' = (r ≡ written_of 0 (length out) (refusal_text n line)) × (out' ≡ buffer_after 0 out (refusal_text n line))
 
-  pub put_short : length out < 13 → Puts (NotWritten why.Buffer) out
+  pub put_short : length out < 13 → Puts (Err why.Buffer) out
   put_short h =
       let l = refusal_length n line in
       let k = lt-leb (length (refusal_text n line)) (length out) (omega arith) in
       (rw k, rw k)
 
-  pub put_whole : 13 ≤ length out → (r : ℕ) → r ≡ 13 → (out' : List ℕ) → out' ≡ sets out 0 (refusal_text n line) → Puts (Length r) out'
+  pub put_whole : 13 ≤ length out → (r : ℕ) → r ≡ 13 → (out' : List ℕ) → out' ≡ sets out 0 (refusal_text n line) → Puts (Ok r) out'
   put_whole h r e out' f =
       let l = refusal_length n line in
       let k = le-leb (length (refusal_text n line)) (length out) (omega arith) in
-      (rw k (ap Length (omega arith)), rw k f)
+      (rw k (ap Ok (omega arith)), rw k f)
 
 -- ---- the answer
 
 module _ (s : State) (out : List ℕ) where
-  pub busy : working s.awaited ≡ true → FinishSays s out (NotWritten why.Busy) out
+  pub busy : working s.awaited ≡ true → FinishSays s out (Err why.Busy) out
   unfolding finish_answer finish_out refusal_of
   busy w = (rw w, rw w)
 
-  pub ends : working s.awaited ≡ false → (text : List ℕ) → last_text s ≡ text → (r : Written) (out' : List ℕ) → r ≡ written_of 0 (length out) text → out' ≡ buffer_after 0 out text
+  pub ends : working s.awaited ≡ false → (text : List ℕ) → last_text s ≡ text → (r : Result ℕ Refusal) (out' : List ℕ) → r ≡ written_of 0 (length out) text → out' ≡ buffer_after 0 out text
       → FinishSays s out r out'
   unfolding finish_answer finish_out
   ends w text e r out' a b = (rw (w, e) a, rw (w, e) b)
 
-  pub ends_silent : working s.awaited ≡ false → last_text s ≡ [] → FinishSays s out (Length 0) out
-  ends_silent w e = let k = le-leb 0 (length out) zero-le in ends w [] e (Length 0) out (rw k) (rw k)
+  pub ends_silent : working s.awaited ≡ false → last_text s ≡ [] → FinishSays s out (Ok 0) out
+  ends_silent w e = let k = le-leb 0 (length out) zero-le in ends w [] e (Ok 0) out (rw k) (rw k)
 
 -- ---- exactly when
 

@@ -94,18 +94,5 @@ module _ (count taken : ℕ) (os : List ℕ) where
   unfolding misnamed
   not_misnamed n = rw (lt-leb count taken n.more, le-ltb 255 count n.few, le-ltb (65535 * taken) (announced (named_in taken os)) n.nodes)
 
-  -- as the code tests it
-  pub none_to_come : count ≤ taken → true ≡ misnamed count taken os
-  unfolding misnamed
-  none_to_come h = rw (le-leb count taken h)
-
-  pub too_many : taken < count → 255 < count → true ≡ misnamed count taken os
-  unfolding misnamed
-  too_many h k = rw (lt-leb count taken h, lt-ltb 255 count k)
-
-  pub by_nodes : taken < count → count ≤ 255 → (n : ℕ) → n ≡ announced (named_in taken os) → ltb (65535 * taken) n ≡ misnamed count taken os
-  unfolding misnamed
-  by_nodes h k n e = rw (lt-leb count taken h, le-ltb 255 count k, e)
-
 pub misnamed_means : MisnamedMeans
 misnamed_means count taken os = (named_so_far count taken os, not_misnamed count taken os)

@@ -4,24 +4,16 @@ ghost use Rattle.table.specs.Words.{table_words};
 
 use table::WORDS;
 
-pub fn copy_in(words: &[u64], table: &mut [u64; 2657])
+pub fn copy_in(words: &[u64], table: &mut [u64; WORDS])
     requires { (table_words ≤ length words.now) × (length table.old ≡ table_words) }
     ensures { table.new ≡ take table_words words.now }
 {
-    let mut i: usize = 0;
-    while i < WORDS {
-        table[i] = words[i];
-        i += 1;
-    }
+    table.copy_from_slice(&words[..WORDS]);
 }
 
-pub fn copy_out(table: &[u64; 2657], words: &mut [u64])
+pub fn copy_out(table: &[u64; WORDS], words: &mut [u64])
     requires { (length table.now ≡ table_words) × (table_words ≤ length words.old) }
     ensures { words.new ≡ table.now ++ drop table_words words.old }
 {
-    let mut i: usize = 0;
-    while i < WORDS {
-        words[i] = table[i];
-        i += 1;
-    }
+    words[..WORDS].copy_from_slice(table);
 }

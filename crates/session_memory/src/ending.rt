@@ -15,48 +15,24 @@ use text_frame::{REFUSAL_LINE, put_refusal};
 pub fn is_stopped(awaited: Awaited) -> bool
     ensures { Tests result (awaited ≡ Stopped) }
 {
-    if let Awaited::Stopped = awaited {
-        return true;
-    }
-    false
+    matches!(awaited, Awaited::Stopped)
 }
 
 // Whether text that ends between two lines ends inside the table or a command.
 fn is_inside(awaited: Awaited) -> bool
     ensures { result ≡ inside awaited }
 {
-    match awaited {
-        Awaited::Table(expected) => true,
-        Awaited::Command => false,
-        Awaited::Naming { count, taken, line } => true,
-        Awaited::Nodes {
-            coming,
-            count,
-            taken,
-            line,
-        } => true,
-        Awaited::Working { turns } => false,
-        Awaited::Stopped => false,
-    }
+    matches!(
+        awaited,
+        Awaited::Table(_) | Awaited::Naming { .. } | Awaited::Nodes { .. }
+    )
 }
 
 // Whether an update is at work.
 fn is_working(awaited: Awaited) -> bool
     ensures { result ≡ working awaited }
 {
-    match awaited {
-        Awaited::Table(expected) => false,
-        Awaited::Command => false,
-        Awaited::Naming { count, taken, line } => false,
-        Awaited::Nodes {
-            coming,
-            count,
-            taken,
-            line,
-        } => false,
-        Awaited::Working { turns } => true,
-        Awaited::Stopped => false,
-    }
+    matches!(awaited, Awaited::Working { .. })
 }
 
 // Writes the last line where it has room.

@@ -20,7 +20,7 @@ use update::Record;
 use update_judge::{judge_ground, judge_holding, judge_step};
 
 // What a line can print, and more.
-const OUT: usize = 131_072;
+pub const OUT: usize = 131_072;
 
 // No command's first line announces more points, and no point's line more nodes.
 const POINTS: usize = 255;
@@ -41,31 +41,15 @@ pub fn is_narrow(
 ) -> bool
     ensures { Tests (not result) (Wide words.now window.now parts.now part_owns.now (lent held.now held_owns.now sets.now earlier.now) out.now) }
 {
-    if words.len() < WORDS {
-        return true;
-    }
-    if window.len() < AHEAD {
-        return true;
-    }
-    if parts.len() < PARTS {
-        return true;
-    }
-    if part_owns.len() < PART_OWNS {
-        return true;
-    }
-    if held.len() < Record::NODES {
-        return true;
-    }
-    if held_owns.len() < Record::NODES {
-        return true;
-    }
-    if sets.len() < Record::SETS {
-        return true;
-    }
-    if earlier.len() < Record::SETS {
-        return true;
-    }
-    out.len() < OUT
+    words.len() < WORDS
+        || window.len() < AHEAD
+        || parts.len() < PARTS
+        || part_owns.len() < PART_OWNS
+        || held.len() < Record::NODES
+        || held_owns.len() < Record::NODES
+        || sets.len() < Record::SETS
+        || earlier.len() < Record::SETS
+        || out.len() < OUT
 }
 
 // Whether the begun line has room and no end yet.
@@ -73,60 +57,11 @@ pub fn is_begun(window: &[u8], begun: usize) -> bool
     requires { 29 ≤ length window.now }
     ensures { Tests result ((begun ≤ 28) × Begun (take begun window.now)) }
 {
-    if LONGEST < begun {
-        return false;
-    }
-    let mut i: usize = 0;
-    while i < begun {
-        if window[i] == LF {
-            return false;
-        }
-        i += 1;
-    }
-    true
-}
-
-// The same frame of a table is expected.
-fn is_same(a: Expected, b: Expected) -> bool
-    ensures { Tests result ((a ≡ b) × (is_on a ≡ true)) }
-{
-    match a {
-        Expected::AtHeader => {
-            if let Expected::AtHeader = b {
-                return true;
-            }
-            false
-        }
-        Expected::AtSymbol(s) => {
-            if let Expected::AtSymbol(s2) = b {
-                return s == s2;
-            }
-            false
-        }
-        Expected::AtProduction(p) => {
-            if let Expected::AtProduction(p2) = b {
-                return p == p2;
-            }
-            false
-        }
-        Expected::AtEquation(p, q, k) => {
-            if let Expected::AtEquation(p2, q2, k2) = b {
-                if p != p2 {
-                    return false;
-                }
-                if q != q2 {
-                    return false;
-                }
-                return k == k2;
-            }
-            false
-        }
-        Expected::Ended => false,
-    }
+    begun <= LONGEST && !window[..begun].contains(&LF)
 }
 
 // The judgement of one frame of a table.
-fn judge_at(table: &[u64; 2657], expected: Expected) -> Result<(), Refusal>
+fn judge_at(table: &[u64; WORDS], expected: Expected) -> Result<(), Refusal>
     requires { Awaits table.now expected }
     ensures { verdict_of result ≡ frame_refusal table.now expected }
 {
@@ -140,39 +75,32 @@ fn judge_at(table: &[u64; 2657], expected: Expected) -> Result<(), Refusal>
 }
 
 // The frames of a table before the one that is expected: 1 to 5 at the first that is refused, 11 where no walk comes to it.
-fn judge_so_far(table: &[u64; 2657], expected: Expected) -> Result<(), Refusal>
+fn judge_so_far(table: &[u64; WORDS], expected: Expected) -> Result<(), Refusal>
     ensures { verdict_of result ≡ sofar_refusal table.now expected }
 {
     let mut x = Expected::AtHeader;
-    let mut still: usize = WORDS;
-    while 0 < still {
-        if is_same(x, expected) {
+    for _ in 0..WORDS {
+        if x == expected && x != Expected::Ended {
             return Ok(());
         }
         judge_at(table, x)?;
         x = next_of(table, x);
-        still -= 1;
     }
     Err(Refusal::Fields)
 }
 
 // 11: whether no lines name so many points with so many nodes.
+#[tactic(auto, unfolding(crate::specs::Refusals::misnamed))]
 fn is_misnamed(count: usize, taken: usize, part_owns: &[u64]) -> bool
     requires { owns_kept ≤ length part_owns.now }
     ensures { result ≡ misnamed count taken part_owns.now }
 {
-    if count <= taken {
-        return true;
-    }
-    if POINTS < count {
-        return true;
-    }
-    NODES * taken < announced_in(part_owns, taken)
+    count <= taken || POINTS < count || NODES * taken < announced_in(part_owns, taken)
 }
 
 // The held tree, if there is one.
 fn judge_kept(
-    table: &[u64; 2657],
+    table: &[u64; WORDS],
     record: Record,
     held: &[u8],
     held_owns: &[u64],
@@ -190,7 +118,7 @@ fn judge_kept(
 
 // By what is waited for.
 pub fn judge_state(
-    table: &[u64; 2657],
+    table: &[u64; WORDS],
     state: State,
     window: &[u8],
     part_owns: &[u64],

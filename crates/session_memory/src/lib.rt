@@ -10,7 +10,7 @@ ghost use Rattle.session_memory.specs.Suspended.{StartSays};
 
 pub use copying::{copy_in, copy_out};
 pub use ending::{finish, is_stopped};
-pub use fitting::{is_narrow, judge_state};
+pub use fitting::{OUT, is_narrow, judge_state};
 pub use gathering::{Gathered, gather};
 use session_owed::Awaited;
 use text_frame::Expected;
@@ -29,11 +29,10 @@ pub struct State {
 pub fn start() -> State
     ensures { StartSays result }
 {
-    let record = Record::empty();
     State {
         awaited: Awaited::Table(Expected::AtHeader),
         begun: 0,
         line: 1,
-        record: record,
+        record: Record::empty(),
     }
 }

@@ -1,55 +1,22 @@
 // A session from a reader to a writer: a thin loop over `feed`, in fixed memory. A failed read ends the input; a failed write ends the session.
 #![tactic(auto)]
 
-ghost use Rattle.std.specs.Prelude.{◌≡◌, true};
 ghost use Rattle.session_memory.specs.Suspended.{suspended};
 ghost use Rattle.session_feed.specs.Laws.{Starts};
-ghost use Rattle.session_serve.specs.Serving.{going_on, stopped, Goes, IsPrefixLen, Served, PieceServed, NextServed};
+ghost use Rattle.session_serve.specs.Serving.{IsPrefixLen, Served, PieceServed, NextServed};
 ghost use Rattle.update.specs.Memories.{lent};
 
-use refusal::Refusal;
 use session_feed::{Fed, State, feed, finish, start};
+use session_memory::OUT;
+use session_owed::{PART_OWNS, PARTS};
 use std::io::{Read, Write};
-
-// Behind a call: the state, how far the piece was taken, whether more of it is to be done, and whether the session goes on.
-#[derive(Clone, Copy)]
-pub struct Progress {
-    pub state: State,
-    pub place: usize,
-    pub more: bool,
-    pub going: bool,
-}
-
-// A session that goes on with the start of a piece.
-fn begin(state: State) -> Progress
-    ensures { result ≡ going_on state 0 true }
-{
-    Progress {
-        state: state,
-        place: 0,
-        more: true,
-        going: true,
-    }
-}
-
-// A session that is over.
-fn stop(state: State) -> Progress
-    ensures { result ≡ stopped state }
-{
-    Progress {
-        state: state,
-        place: 0,
-        more: false,
-        going: false,
-    }
-}
+use table::WORDS;
+use text_line::AHEAD;
+use update::Record;
 
 // Prints the first bytes of a buffer, and says whether that could be done.
 fn print<W: Write>(output: &mut W, out: &[u8], printed: usize) -> bool {
-    if printed <= out.len() {
-        return output.write_all(&out[..printed]).is_ok();
-    }
-    false
+    printed <= out.len() && output.write_all(&out[..printed]).is_ok()
 }
 
 // The end of the input.
@@ -59,30 +26,7 @@ fn print_end<W: Write>(output: &mut W, state: State, out: &mut [u8]) {
     }
 }
 
-// What a call of `feed` has answered, printed.
-fn print_fed<W: Write>(
-    output: &mut W,
-    state: State,
-    fed: Result<Fed, Refusal>,
-    out: &[u8],
-) -> Progress
-    ensures { Goes fed result }
-{
-    let Ok(fed) = fed else {
-        return stop(state);
-    };
-    if print(output, out, fed.printed) {
-        return Progress {
-            state: fed.state,
-            place: fed.place,
-            more: fed.more,
-            going: true,
-        };
-    }
-    stop(fed.state)
-}
-
-// One call of `feed`, and what it prints.
+// One call of `feed`, and what it prints; none where the session is over.
 fn take_some<W: Write>(
     output: &mut W,
     state: State,
@@ -97,19 +41,20 @@ fn take_some<W: Write>(
     piece: &[u8],
     from: usize,
     out: &mut [u8],
-) -> Progress
+) -> Option<Fed>
     ensures { Served (suspended words.old window.old parts.old part_owns.old (lent held.old held_owns.old sets.old earlier.old) state) piece.now from out.old (suspended words.new window.new parts.new part_owns.new (lent held.new held_owns.new sets.new earlier.new)) out.new result }
 {
     let fed = feed(
         state, words, window, parts, part_owns, held, held_owns, sets, earlier, piece, from, out,
-    );
-    print_fed(output, state, fed, out)
+    )
+    .ok()?;
+    print(output, out, fed.printed).then_some(fed)
 }
 
-// One piece. What is owed for the rest of it falls with each turn.
+// One piece, and the state behind it. What is owed for the rest of it falls with each turn.
 fn take_piece<W: Write>(
     output: &mut W,
-    state: State,
+    mut state: State,
     words: &mut [u64],
     window: &mut [u8],
     parts: &mut [u8],
@@ -120,32 +65,31 @@ fn take_piece<W: Write>(
     earlier: &mut [u64],
     piece: &[u8],
     out: &mut [u8],
-) -> Progress
+) -> Option<State>
     ensures { PieceServed (suspended words.old window.old parts.old part_owns.old (lent held.old held_owns.old sets.old earlier.old) state) out.old piece.now (suspended words.new window.new parts.new part_owns.new (lent held.new held_owns.new sets.new earlier.new)) out.new result }
 {
-    let mut now = begin(state);
-    while now.more {
-        let s = now.state;
-        let from = now.place;
-        now = take_some(
-            output, s, words, window, parts, part_owns, held, held_owns, sets, earlier, piece,
-            from, out,
-        );
+    let mut place = 0;
+    loop {
+        let fed = take_some(
+            output, state, words, window, parts, part_owns, held, held_owns, sets, earlier, piece,
+            place, out,
+        )?;
+        if !fed.more {
+            return Some(fed.state);
+        }
+        state = fed.state;
+        place = fed.place;
     }
-    now
 }
 
 // The bytes that have come, at the start of the buffer; none at the end of the input.
 fn read_piece<R: Read>(input: &mut R, buffer: &mut [u8]) -> usize
     ensures { IsPrefixLen result buffer.new }
 {
-    match input.read(buffer) {
-        Ok(n) => n,
-        Err(_) => 0,
-    }
+    input.read(buffer).unwrap_or(0)
 }
 
-// The next piece as it comes, or the end of the input.
+// The next piece as it comes, and the state behind it; or the end of the input.
 fn take_next<R: Read, W: Write>(
     input: &mut R,
     output: &mut W,
@@ -160,13 +104,13 @@ fn take_next<R: Read, W: Write>(
     earlier: &mut [u64],
     buffer: &mut [u8],
     out: &mut [u8],
-) -> Progress
+) -> Option<State>
     ensures { NextServed (suspended words.old window.old parts.old part_owns.old (lent held.old held_owns.old sets.old earlier.old) state) out.old (suspended words.new window.new parts.new part_owns.new (lent held.new held_owns.new sets.new earlier.new)) out.new buffer.new result }
 {
     let n = read_piece(input, buffer);
     if n == 0 {
         print_end(output, state, out);
-        return stop(state);
+        return None;
     }
     take_piece(
         output,
@@ -188,7 +132,7 @@ fn take_next<R: Read, W: Write>(
 fn take_pieces<R: Read, W: Write>(
     input: &mut R,
     output: &mut W,
-    state: State,
+    mut state: State,
     words: &mut [u64],
     window: &mut [u8],
     parts: &mut [u8],
@@ -202,30 +146,32 @@ fn take_pieces<R: Read, W: Write>(
 )
     requires { Starts (suspended words.old window.old parts.old part_owns.old (lent held.old held_owns.old sets.old earlier.old) state) out.old }
 {
-    let mut now = begin(state);
-    let mut turns = u64::MAX;
-    while turns > 0 && now.going {
-        let s = now.state;
-        now = take_next(
-            input, output, s, words, window, parts, part_owns, held, held_owns, sets, earlier,
+    for _ in 0..u64::MAX {
+        let Some(next) = take_next(
+            input, output, state, words, window, parts, part_owns, held, held_owns, sets, earlier,
             buffer, out,
-        );
-        turns -= 1;
+        ) else {
+            return;
+        };
+        state = next;
     }
 }
 
+// No piece is longer.
+const READ: usize = 65_536;
+
 // The whole session.
 pub fn serve<R: Read, W: Write>(input: &mut R, output: &mut W) {
-    let mut words = [0u64; 2657];
-    let mut window = [0u8; 29];
-    let mut parts = [0u8; 513];
-    let mut part_owns = [0u64; 521];
-    let mut held = [0u8; 512];
-    let mut held_owns = [0u64; 512];
-    let mut sets = [0u64; 4096];
-    let mut earlier = [0u64; 4096];
-    let mut buffer = [0u8; 65_536];
-    let mut out = [0u8; 131_072];
+    let mut words = [0u64; WORDS];
+    let mut window = [0u8; AHEAD];
+    let mut parts = [0u8; PARTS];
+    let mut part_owns = [0u64; PART_OWNS];
+    let mut held = [0u8; Record::NODES];
+    let mut held_owns = [0u64; Record::NODES];
+    let mut sets = [0u64; Record::SETS];
+    let mut earlier = [0u64; Record::SETS];
+    let mut buffer = [0u8; READ];
+    let mut out = [0u8; OUT];
     take_pieces(
         input,
         output,

@@ -92,7 +92,7 @@ pub struct Step {
 }
 
 // The frame of a table that comes next: the header, symbol s, production p, or of production p the equation k of position q; or none.
-#[derive(Clone, Copy)]
+#[derive(Clone, Copy, PartialEq, Eq)]
 pub enum Expected {
     AtHeader,
     AtSymbol(usize),

@@ -1,28 +1,16 @@
--- `take_piece`: what each turn leaves, and that the last leaves the piece taken whole. Assumes nothing.
-use Rattle.session_memory.specs.Suspended.{suspended}
-use Rattle.session_serve.proofs.Amid.{amid_first, amid_next, amid_less, amid_last}
+-- `take_piece`: what each call leaves, and that the last leaves the piece taken whole. Assumes nothing.
+use Rattle.std.proofs.lemmas.Bool.{not-true, not-false}
+use Rattle.session_serve.proofs.Amid.{amid_first, amid_next, amid_last, owed_falls}
 use Rattle.session_serve.proofs.take_piece.Goals as goal
-use Rattle.update.specs.Memories.{lent}
 
-pub loop-now-init : goal.loop-now-init
-loop-now-init g c =
-    let a = c.args in
-    amid_first (suspended a.words.now a.window.now a.parts.now a.part_owns.now (lent a.held.now a.held_owns.now a.sets.now a.earlier.now)) a.out.now a.piece.now a.state c.begin-now.result c.begin-now.ensures
+pub loop-fed-init : goal.loop-fed-init
+loop-fed-init g c = amid_first _ _ _
 
-pub loop-now-smaller : goal.loop-now-smaller
-loop-now-smaller g c =
-    let a = c.args in
-    let l = c.loop-now in
-    amid_less (suspended a.words.now a.window.now a.parts.now a.part_owns.now (lent a.held.now a.held_owns.now a.sets.now a.earlier.now) c.begin-now.result.state) a.out.now a.piece.now
-    (suspended l.words l.window l.parts l.part_owns (lent l.held l.held_owns l.sets l.earlier)) _ l.out _ l.now c.loop-now-test.true c.take_some-now.ensures
+pub loop-fed-smaller : goal.loop-fed-smaller
+loop-fed-smaller g c = owed_falls c.in_ok-fed.ensures (not-false _ c.if-not-fed.false)
 
-pub loop-now-preserved : goal.loop-now-preserved
-loop-now-preserved g c =
-    let l = c.loop-now in
-    amid_next _ _ _ (suspended l.words l.window l.parts l.part_owns (lent l.held l.held_owns l.sets l.earlier)) _ l.out _ l.now l.invariant c.loop-now-test.true c.take_some-now.ensures
+pub loop-fed-preserved : goal.loop-fed-preserved
+loop-fed-preserved g c = amid_next c.loop-fed.invariant c.in_ok-fed.ensures (not-false _ c.if-not-fed.false)
 
-pub returns : goal.returns
-returns g c =
-    let a = c.args in
-    let l = c.loop-now in
-    amid_last (suspended a.words.now a.window.now a.parts.now a.part_owns.now (lent a.held.now a.held_owns.now a.sets.now a.earlier.now)) a.out.now a.piece.now a.state c.begin-now.result c.begin-now.ensures _ l.out l.now l.invariant c.loop-now-test.false
+pub returns-then-not-fed : goal.returns-then-not-fed
+returns-then-not-fed g c = amid_last c.loop-fed.invariant c.in_ok-fed.ensures (not-true _ c.if-not-fed.true)

@@ -7,6 +7,7 @@ use native.Mathlib.Omega.{arith}
 use Rattle.refusal.specs.Numbers.{number_of}
 use Rattle.refusal.specs.declared.Refusal.{Refusal}
 use Rattle.refusal.specs.Orders.{Order, refusal_by}
+use Rattle.refusal.proofs.Distinct.{handed_number}
 use Rattle.refusal.proofs.Orders.{past, stopped}
 use Rattle.update.specs.declared.Record.{Record}
 use Rattle.update.specs.Memories.{lent, Memory}
@@ -38,14 +39,14 @@ module _ (t : List ℕ) (m : Memory) (r : Record) where
 
 pub judge_holding-requires : goal.judge_holding-requires
 judge_holding-requires c =
-    let g = grounded c.args.table.now (lent c.args.held.now c.args.held_owns.now c.args.sets.now c.args.earlier.now) c.args.«record» (sym c.in-Sound.ensures) in
+    let g = grounded c.args.table.now (lent c.args.held.now c.args.held_owns.now c.args.sets.now c.args.earlier.now) c.args.«record» (sym c.in_ok-judge_ground.ensures) in
     record { table_value = g.table; record_in_bounds = (omega (arith, g.room.productions, g.within.nodes), omega (arith, g.room.owns, g.within.nodes)) }
 
 pub returns-then-record : goal.returns-then-record
-returns-then-record c = held c.args.table.now (lent c.args.held.now c.args.held_owns.now c.args.sets.now c.args.earlier.now) c.args.«record» _ (sym c.in-Sound.ensures) c.if-record.true c.judge_holding.ensures
+returns-then-record c = held c.args.table.now (lent c.args.held.now c.args.held_owns.now c.args.sets.now c.args.earlier.now) c.args.«record» _ (sym c.in_ok-judge_ground.ensures) c.if-record.true c.judge_holding.ensures
 
-pub returns-else-record : goal.returns-else-record
-returns-else-record c = none_held c.args.table.now (lent c.args.held.now c.args.held_owns.now c.args.sets.now c.args.earlier.now) c.args.«record» (sym c.in-Sound.ensures) c.if-record.false
+pub returns : goal.returns
+returns c = none_held c.args.table.now (lent c.args.held.now c.args.held_owns.now c.args.sets.now c.args.earlier.now) c.args.«record» (sym c.in_ok-judge_ground.ensures) c.if-record.false
 
-pub returns-in-Refused : goal.returns-in-Refused
-returns-in-Refused c = no_ground c.args.table.now (lent c.args.held.now c.args.held_owns.now c.args.sets.now c.args.earlier.now) c.args.«record» c.in-Refused.r c.in-Refused.ensures
+pub returns-in_err-judge_ground : goal.returns-in_err-judge_ground
+returns-in_err-judge_ground c = handed_number _ _ c.from_residual.ensures.1 _ (no_ground c.args.table.now (lent c.args.held.now c.args.held_owns.now c.args.sets.now c.args.earlier.now) c.args.«record» c.in_err-judge_ground.field-0.0 c.in_err-judge_ground.ensures)

@@ -1,7 +1,5 @@
 -- What is left of the walk gives the number of the whole. Assumes nothing.
-use mathlib.Core.Path.{◌≡◌}
-use mathlib.Core.List.{List}
-use Prim.Native.Nat.{ℕ}
+use Rattle.std.proofs.Common.{◌≡◌, ℕ, ◌-◌, List}
 use Rattle.text_table.specs.Read.{Sofar}
 use Rattle.text_frame.specs.declared.Expected.{Expected}
 use Rattle.session_memory.specs.Refusals.{walk_refusal, sofar_refusal}
@@ -12,8 +10,5 @@ pub record Stands (t : List ℕ) (y x : Expected) (n : ℕ) : Type 0 where
   pub so : Sofar t x
   pub same : sofar_refusal t y ≡ walk_refusal n t x y
 
-abbrev pub invariant-loop-still : goal.invariant-loop-still
-invariant-loop-still l = Stands l.table l.expected l.x l.still
-
-abbrev pub decreases-loop-still : goal.decreases-loop-still
-decreases-loop-still l = l.still
+abbrev pub invariant-loop : goal.invariant-loop
+invariant-loop l = Stands l.table l.expected l.x (2657 - l.counter)
