@@ -7,17 +7,19 @@ use Prim.Native.Nat.{ℕ, suc, ◌+◌, ◌-◌, ◌≤◌, ◌<◌}
 use native.Mathlib.Omega.{arith}
 use borrow.Author.Tests.{ltb-false, lt-ltb, le-ltb, eq-eqb, ne_eqb}
 use lib.Dec.{ltb}
-use lib.ListN.{length}
+use lib.ListN.{length, take}
+use lib.Seq.{length-take-le}
 use Rattle.refusal.specs.Numbers.{number_of}
 use Rattle.refusal.specs.declared.Refusal.{Refusal}
 use Rattle.refusal.specs.Orders.{or_else, when, unless, Order, refusal_by, Right}
 use Rattle.refusal.proofs.Orders.{or_none, or_zero, agree_meant, agree_unless, order_gives, right_joined, past, stopped, front, alone}
+use Rattle.table.specs.Judge.{judge_table}
 use Rattle.tree.specs.Tree.{judge_nodes, judge_tree}
 use Rattle.tree.specs.Points.{Part, nodes_row, leaving_row, coming_row, overlaps}
 use Rattle.climb.proofs.Lists.{either}
 use Rattle.update.specs.declared.Record.{Record}
 use Rattle.update.specs.Records.{is_open_kind}
-use Rattle.update.specs.Memories.{Memory, nodes_of}
+use Rattle.update.specs.Memories.{Memory, lent, nodes_of}
 use Rattle.update.specs.Refusals.{held_refusal, load_refusal, miscounted, missing, nodes_left, parts_refusal, points_refusal, step_refusal, read_refusal, ground_order, busy_check, new_order, held_order, look_order, asked_order, aim_order, point_check, waiver_order, going_order, step_order}
 use Rattle.update.proofs.Within.{short_means, beyond_means}
 use Rattle.update.proofs.Asking.{counted_means, missing_means, present_means}
@@ -181,6 +183,51 @@ module _ (t : List ℕ) (r : Record) (ns owns : List ℕ) (o : is_open_kind r.«
 
   pub load_judged : length ns ≤ 512 → length ns ≡ length owns → judge_nodes t ns (0 ∷ []) ≡ refusal_by (new_order t r ns owns)
   load_judged h e = tree_judged t ns owns 0 e ∙ load_last h
+
+-- 16, then the tree that is held
+module _ (t held owns : List ℕ) (r : Record) where
+  pub held_absent : r.held ≡ false → 16 ≡ refusal_by (held_order t held owns r)
+  unfolding refusal_by
+  held_absent h = rw h
+
+  pub held_last : r.held ≡ true → r.nodes ≤ length held → r.nodes ≤ length owns → judge_nodes t (take r.nodes held) (0 ∷ []) ≡ refusal_by (held_order t held owns r)
+  unfolding refusal_by
+  held_last h a b =
+      rw h (tree_judged t (take r.nodes held) (take r.nodes owns) 0 (length-take-le r.nodes held a ∙ sym (length-take-le r.nodes owns b)) ∙ sym (or_zero (judge_tree t (take r.nodes held) (take r.nodes owns) 0)))
+
+-- ---- behind what comes first in every call, of four buffers that are lent
+
+module _ (t held owns sets earlier : List ℕ) (r : Record) where
+  abbrev ground : Order
+  ground = ground_order t (lent held owns sets earlier) r
+
+  abbrev behind : Order
+  behind = busy_check r ∷ held_order t held owns r
+
+  pub ground_table : refusal_by ground ≡ 0 → judge_table t ≡ 0
+  ground_table h = (grounded t (lent held owns sets earlier) r h).table
+
+  pub ground_nodes : refusal_by ground ≡ 0 → (r.nodes ≤ length held) × (r.nodes ≤ length owns)
+  ground_nodes h =
+      let g = grounded t (lent held owns sets earlier) r h in
+      (omega (arith, g.room.productions, g.within.nodes), omega (arith, g.room.owns, g.within.nodes))
+
+  pub step_going : refusal_by ground ≡ 0 → refusal_by (going_order t held owns r) ≡ step_refusal t (lent held owns sets earlier) r
+  step_going h = sym (step_past t (lent held owns sets earlier) r (grounded t (lent held owns sets earlier) r h))
+
+  pub step_ground : (q : Refusal) → number_of q ≡ refusal_by ground → number_of q ≡ step_refusal t (lent held owns sets earlier) r
+  step_ground q e = step_stopped t (lent held owns sets earlier) r q e
+
+  pub look_busy : refusal_by ground ≡ 0 → is_open_kind r.«open» ≡ true → 10 ≡ refusal_by (look_order t (lent held owns sets earlier) r)
+  unfolding refusal_by
+  look_busy g o = sym (past ground behind g ∙ rw o)
+
+  pub look_held : refusal_by ground ≡ 0 → is_open_kind r.«open» ≡ false → refusal_by (held_order t held owns r) ≡ refusal_by (look_order t (lent held owns sets earlier) r)
+  unfolding refusal_by
+  look_held g o = sym (past ground behind g ∙ rw o)
+
+  pub look_stopped : (q : Refusal) → number_of q ≡ refusal_by ground → number_of q ≡ refusal_by (look_order t (lent held owns sets earlier) r)
+  look_stopped q e = stopped ground behind q e
 
 -- a load that refuses nothing has a sound tree of equal lengths within 512 nodes
 pub record Loads (t ns owns : List ℕ) : Type 0 where

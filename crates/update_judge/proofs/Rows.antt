@@ -21,7 +21,7 @@ use Rattle.climb.proofs.Lists.{either, or_false_is, le_or_lt}
 use Rattle.update_place.specs.Inner.Splicing.{Splicing}
 use Rattle.update.specs.declared.Record.{Record}
 use Rattle.update.specs.Records.{is_open_kind}
-use Rattle.update.specs.Memories.{Memory}
+use Rattle.update.specs.Memories.{Memory, lent}
 use Rattle.refusal.specs.Orders.{unless, Order, refusal_by}
 use Rattle.update.specs.Refusals.{miscounted, missing, parts_refusal, ground_order, held_order, asked_order, aim_order, point_check}
 use Rattle.update.proofs.Asking.{counted_means, tests_row}
@@ -102,18 +102,18 @@ module _ (r : Record) (ps : List Part) where
 
 -- ---- behind what comes first in every call
 
-module _ (t : List ℕ) (m : Memory) (r : Record) (ps : List Part) (g : refusal_by (ground_order t m r) ≡ 0) where
-  abbrev held : Order
-  held = held_order t m.productions m.owns r
+module _ (t held owns sets earlier : List ℕ) (r : Record) (ps : List Part) where
+  abbrev ground : Order
+  ground = ground_order t (lent held owns sets earlier) r
 
-  pub aim_asked : (q : Refusal) → number_of q ≡ refusal_by (asked_order r ps) → number_of q ≡ refusal_by (aim_order t m r ps)
-  aim_asked q e = stopped (asked_order r ps) held q e ∙ sym (past (ground_order t m r) (asked_order r ps ++ held) g)
+  pub aim_ground : (q : Refusal) → number_of q ≡ refusal_by ground → number_of q ≡ refusal_by (aim_order t (lent held owns sets earlier) r ps)
+  aim_ground q e = stopped ground (asked_order r ps ++ held_order t held owns r) q e
 
-  pub aim_held : refusal_by (asked_order r ps) ≡ 0 → refusal_by held ≡ refusal_by (aim_order t m r ps)
-  aim_held e = sym (past (ground_order t m r) (asked_order r ps ++ held) g ∙ past (asked_order r ps) held e)
+  pub aim_asked : refusal_by ground ≡ 0 → (q : Refusal) → number_of q ≡ refusal_by (asked_order r ps) → number_of q ≡ refusal_by (aim_order t (lent held owns sets earlier) r ps)
+  aim_asked g q e = stopped (asked_order r ps) (held_order t held owns r) q e ∙ sym (past ground (asked_order r ps ++ held_order t held owns r) g)
 
-pub aim_ground : (t : List ℕ) (m : Memory) (r : Record) (ps : List Part) (q : Refusal) → number_of q ≡ refusal_by (ground_order t m r) → number_of q ≡ refusal_by (aim_order t m r ps)
-aim_ground t m r ps q e = stopped (ground_order t m r) (asked_order r ps ++ held_order t m.productions m.owns r) q e
+  pub aim_held : refusal_by ground ≡ 0 → refusal_by (asked_order r ps) ≡ 0 → refusal_by (held_order t held owns r) ≡ refusal_by (aim_order t (lent held owns sets earlier) r ps)
+  aim_held g e = sym (past ground (asked_order r ps ++ held_order t held owns r) g ∙ past (asked_order r ps) (held_order t held owns r) e)
 
 -- ---- these numbers look at points and counts alone
 
