@@ -2,7 +2,7 @@
 use mathlib.Core.Path.{◌≡◌, refl, sym, ap, ◌∙◌}
 use mathlib.Core.Bool.{Bool, true, false, cond, not, ◌||◌, or-false}
 use mathlib.Core.List.{List, [], ◌∷◌, map}
-use Prim.Native.Nat.{ℕ, suc, ◌+◌, ◌≤◌, ◌<◌}
+use Prim.Native.Nat.{ℕ, ◌+◌, ◌≤◌, ◌<◌}
 use native.Mathlib.Nat.{le_trans}
 use native.Mathlib.Omega.{arith}
 use lib.Dec.{eqb, ltb}
@@ -23,15 +23,6 @@ use Rattle.climb.proofs.Lists.{and_is}
 use Rattle.climb.proofs.Storing.{puts_map}
 
 -- ---- what is left of a circle
-
-pub span_on : {m : List ℕ} {n p end : ℕ} → p < end → Span m n p end → Span m n (suc p) end
-span_on l s = record { rise = l; room = s.room; inside = λ q a b. s.inside q (omega arith) b }
-
-pub span_wider : {m : List ℕ} {n k start end : ℕ} → n ≤ k → Span m n start end → Span m k start end
-span_wider l s = record { rise = s.rise; room = s.room; inside = λ q a b. le_trans (s.inside q a b) l }
-
-pub rows_on : {owns a b left rule m : List ℕ} {n p end : ℕ} → p < end → Rows owns a b left rule m n p end → Rows owns a b left rule m n (suc p) end
-rows_on l s = record { rise = l; room = s.room; row = λ q c d. s.row q (omega arith) d }
 
 pub rows_span : {owns a b left rule m : List ℕ} {n start end : ℕ} → Rows owns a b left rule m n start end → Span m n start end
 rows_span s = record { rise = s.rise; room = s.room; inside = λ q c d. (s.row q c d).below }

@@ -15,7 +15,6 @@ use Rattle.update.specs.declared.Answer.{Answer}
 use Rattle.update.specs.declared.Answer.TheVariants.{Round, Done}
 use Rattle.update.specs.Records.{shut}
 use Rattle.update.specs.Steps.{changed_of, round_number, round_record, round_made, done_made, due_from, step_of}
-use Rattle.update_round.specs.Inner.Arranged.{Arranged, Lent, Looks}
 use Rattle.update_round.specs.Inner.Tests.{reading}
 use Rattle.update_round.specs.Inner.Says.{RoundSays}
 use Rattle.update_step.specs.Inner.Says.{StepSays}
@@ -62,10 +61,6 @@ module _ (n : ℕ) (t owns a b left rule : List ℕ) where
         rw (f, ← counted, lt-ltb i count h, e) s
 
 -- ---- what is lent has room for what is read
-
-pub looks_of : {R : List (List ℕ)} {n : ℕ} {owns a b left rule label m e earlier sets values : List ℕ} {count : ℕ} → Wiring owns a b left rule n
-    → Arranged R n a b label m e count → Lent n earlier sets values → Looks n a b label earlier sets
-looks_of w g l = record { firsts = w.firsts; seconds = w.seconds; labels = g.labels; olds = l.olds; news = l.sets_room }
 
 -- the members of a circle have their rows
 pub place_rows : {owns a b left rule C : List ℕ} {n : ℕ} → Wiring owns a b left rule n → Place n a b C → Rows owns a b left rule C n 0 (length C)

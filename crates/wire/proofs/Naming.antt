@@ -44,47 +44,11 @@ pub record Starting (n : ℕ) (l : List ℕ) : Type 0 where
   pub none : get_or l 8 0 ≡ 65535
   pub names : (i : ℕ) → i < n → get_or l i 0 ≡ i
 
-pub starting_none : (l : List ℕ) → length l ≡ 1032 → get_or l 8 0 ≡ 65535 → Starting 0 l
-starting_none l e f = record { long = e; none = f; names = λ i h. absurd (omega arith) }
-
-pub starting_more : (n : ℕ) (l : List ℕ) → n < 8 → Starting n l → Starting (n + 1) (set l n n)
-starting_more n l h s = record {
-  long = length-set l n n ∙ s.long;
-  none = get_or-set_other l n 8 n 0 (λ w. omega arith) ∙ s.none;
-  names = λ i b. elim (ℕ_discrete i n) [
-    | yes z ↦ rw z (get_or-set_same l n n 0 (omega (arith, s.long)))
-    | no z ↦ get_or-set_other l n i n 0 z ∙ s.names i (omega arith)
-  ];
-}
-
-pub starting_all : (n : ℕ) (l : List ℕ) → 8 ≤ n → Starting n l → Own 0 l
-starting_all n l h s = record { long = s.long; none = s.none; names = λ i b. s.names i (omega arith) ∙ omega arith }
-
 pub record Moving (q n : ℕ) (l : List ℕ) : Type 0 where
   pub long : length l ≡ 1032
   pub none : get_or l 8 0 ≡ 65535
   pub gone : (i : ℕ) → i < n → get_or l i 0 ≡ 8 * (q + 1) + i
   pub rest : (i : ℕ) → n ≤ i → i < 8 → get_or l i 0 ≡ 8 * q + i
-
-pub moving_none : (q : ℕ) (l : List ℕ) → Own q l → Moving q 0 l
-moving_none q l o = record { long = o.long; none = o.none; gone = λ i h. absurd (omega arith); rest = λ i h b. o.names i b }
-
-pub moving_more : (q n : ℕ) (l : List ℕ) → n < 8 → Moving q n l → Moving q (n + 1) (set l n (get_or l n 0 + 8))
-moving_more q n l h m = record {
-  long = length-set l n v ∙ m.long;
-  none = get_or-set_other l n 8 v 0 (λ w. omega arith) ∙ m.none;
-  gone = λ i b. elim (ℕ_discrete i n) [
-    | yes z ↦ rw z (get_or-set_same l n v 0 (omega (arith, m.long)) ∙ omega (arith, m.rest n (omega arith) h))
-    | no z ↦ get_or-set_other l n i v 0 z ∙ m.gone i (omega arith)
-  ];
-  rest = λ i b c. get_or-set_other l n i v 0 (λ w. omega arith) ∙ m.rest i (omega arith) c;
-}
-  where
-    v : ℕ
-    v = get_or l n 0 + 8
-
-pub moving_all : (q n : ℕ) (l : List ℕ) → 8 ≤ n → Moving q n l → Own (q + 1) l
-moving_all q n l h m = record { long = m.long; none = m.none; names = λ i b. m.gone i (omega arith) }
 
 -- ---- a node and its first k children
 

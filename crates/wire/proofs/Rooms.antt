@@ -1,11 +1,10 @@
 -- The four arrays: room that stays, what lies behind, and the marks. Assumes nothing.
-use Prim.Native.Nat.{ℕ, ◌+◌, ◌*◌, ◌<◌}
+use Prim.Native.Nat.{ℕ, ◌*◌, ◌<◌}
 use mathlib.Core.Path.{◌≡◌, refl, ◌∙◌}
 use mathlib.Core.Bool.{false}
 use mathlib.Core.List.{List}
-use lib.ListN.{length, get_or, set, length-set}
-use lib.Seq.{get_or-set_same, get_or-set_other}
-use native.Mathlib.Decide.{ℕ_discrete}
+use lib.ListN.{length, set, length-set}
+use lib.Seq.{get_or-set_other}
 use native.Mathlib.Omega.{arith}
 use Rattle.wire.specs.Instances.{declared}
 use Rattle.wire.specs.Arrays.{first_at, second_at, left_at, rule_in}
@@ -48,23 +47,6 @@ stay_room s m = record {
 }
 
 -- ---- marks
-
-pub blank_none : (a b l r : List ℕ) → Blank 0 a b l r
-blank_none a b l r = record { firsts = λ x h. absurd (omega arith); seconds = λ x h. absurd (omega arith); lefts = λ x h. absurd (omega arith); rules = λ x h. absurd (omega arith) }
-
-mark_more : (l : List ℕ) (n v : ℕ) → n < length l → ((x : ℕ) → x < n → get_or l x 0 ≡ v) → (x : ℕ) → x < n + 1 → get_or (set l n v) x 0 ≡ v
-mark_more l n v h k x i = elim (ℕ_discrete x n) [
-  | yes z ↦ rw z (get_or-set_same l n v 0 h)
-  | no z ↦ get_or-set_other l n x v 0 z ∙ k x (omega arith)
-]
-
-pub blank_more : (a b l r : List ℕ) (x n : ℕ) → x < n → Room n a b l r → Blank x a b l r → Blank (x + 1) (set a x 65534) (set b x 65534) (set l x 0) (set r x 0)
-blank_more a b l r x n h m k = record {
-  firsts = mark_more a x 65534 (omega (arith, m.firsts)) k.firsts;
-  seconds = mark_more b x 65534 (omega (arith, m.seconds)) k.seconds;
-  lefts = mark_more l x 0 (omega (arith, m.lefts)) k.lefts;
-  rules = mark_more r x 0 (omega (arith, m.rules)) k.rules;
-}
 
 wires_none : (t ns : List ℕ) (x : ℕ) → declared t ns x ≡ false → Wires t ns x 65534 65534 0 0
 unfolding first_at second_at left_at rule_in

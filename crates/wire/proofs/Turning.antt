@@ -1,5 +1,5 @@
 -- Turn by turn, position by position, node by node: the wiring as it is made. Assumes nothing.
-use Prim.Native.Nat.{ℕ, zero, suc, ◌+◌, ◌-◌, ◌*◌, ◌/◌, ◌%◌, ◌≤◌, ◌<◌, zero-le}
+use Prim.Native.Nat.{ℕ, zero, suc, ◌+◌, ◌*◌, ◌/◌, ◌%◌, ◌≤◌, ◌<◌, zero-le}
 use mathlib.Core.Path.{◌≡◌, refl, sym, ap, ◌∙◌}
 use mathlib.Core.Bool.{true, true≢false}
 use mathlib.Core.List.{List, map}
@@ -9,7 +9,7 @@ use lib.Seq.{get_or-set_same, get_or-set_other}
 use native.Mathlib.Decide.{dec_lt, ℕ_discrete}
 use native.Mathlib.Omega.{arith}
 use Rattle.sets.specs.Arguments.{arguments_of}
-use Rattle.table.specs.Words.{production_count, inherited, left_of, child_count, child_of, defined, rule_of}
+use Rattle.table.specs.Words.{production_count, inherited, left_of, child_count, child_of, defined, rule_of, head_at}
 use Rattle.table.specs.Shape.{Shaped}
 use Rattle.table.specs.Same.{Has}
 use Rattle.table.proofs.Limits.{limits}
@@ -18,7 +18,7 @@ use Rattle.tree.proofs.Symbols.{child_below, child_symbol}
 use Rattle.climb.proofs.Lists.{either}
 use Rattle.wire.specs.Instances.{declared, place_of, rule_at, spot, named, args_at}
 use Rattle.wire.specs.Arrays.{first_at, second_at, left_at, rule_in}
-use Rattle.wire.specs.Inner.Turns.{Held, Room, first_index, Wires, turn, Partly}
+use Rattle.wire.specs.Inner.Turns.{Held, Room, first_index, Named, Sets, Wires, turn, Partly}
 use Rattle.wire.proofs.Places.{Defined, here, parent, op_in, has_synthesized, has_inherited, declared_below, is_declared, place_defined, defined_has, defined_node, defined_rule, defined_args, number_in}
 
 -- a place of the table defines one instance of a node
@@ -92,6 +92,9 @@ module _ (t ns : List ℕ) (held : Held t ns) where
 
   -- ---- one node
 
+  pub number_small : (q : ℕ) → q < length ns → get_or ns q 0 < 64
+  number_small q h = omega (arith, number_in t ns held.judged held.sound q h, (limits t held.judged).productions)
+
   module _ (q : ℕ) (h : q < length ns) where
     abbrev p : ℕ
     p = get_or ns q 0
@@ -147,6 +150,9 @@ module _ (t ns : List ℕ) (held : Held t ns) where
     symbol_small at b =
         let n = number_in t ns held.judged held.sound (spot t ns q at) (spot_below at b) in
         omega (arith, (limits t held.judged).small (get_or ns (spot t ns q at) 0) 0 n zero-le, (limits t held.judged).symbols)
+
+    pub symbol_first : left_of t (get_or ns q 0) < 32
+    symbol_first = symbol_small 0 zero-le
 
     pub child_sets : (at : ℕ) → 1 ≤ at → at ≤ child_count t p → inherited t (left_of t (get_or ns (spot t ns q at) 0)) ≡ defined t p at
     child_sets zero a b = absurd (omega arith)
@@ -207,3 +213,80 @@ module _ (t ns : List ℕ) (held : Held t ns) where
           let z : 20 * q + 4 * at + i + 1 ≡ 20 * q + 4 * at + (i + 1) = omega arith in
           rw (ex, ← z) (partly_set (slot at i) q at (20 * q + 4 * at + i) a b' l r va vb vl vr (slot_declared at i b c) (slot_defined at i b c)
           (omega (arith, few_children)) (omega (arith, index_is)) m (slot_wires va vb vl vr ea eb el er) k)
+
+-- ---- the positions, one by one
+
+-- a child's position has its name, which names the child, and the child's symbol
+pub record ChildTurn (t ns named : List ℕ) (q at x : ℕ) : Type 0 where
+  pub within : at ≤ child_count t (get_or ns q 0)
+  pub few : at ≤ 4
+  pub slot : x ≡ 8 * spot t ns q at
+  pub node : x / 8 < length ns
+  pub production : get_or ns (x / 8) 0 < 64
+  pub symbol : left_of t (get_or ns (x / 8) 0) < 32
+  pub every : inherited t (left_of t (get_or ns (x / 8) 0)) ≡ defined t (get_or ns q 0) at
+  pub first : first_index at ≡ 4
+
+first_is : (at : ℕ) → 1 ≤ at → first_index at ≡ 4
+first_is zero h = absurd (omega arith)
+first_is (suc k) h = omega arith
+
+pub child_turn : {t ns named : List ℕ} {q : ℕ} → Held t ns → q < length ns → Named t ns q named → (at x : ℕ) → 1 ≤ at → at ≤ child_count t (get_or ns q 0) → x ≡ get_or named (256 * at) 0
+    → ChildTurn t ns named q at x
+child_turn {t} {ns} {named} {q} held b n at x h k e =
+    let z : 256 * at + 0 ≡ 256 * at = omega arith in
+    let w = n.names at 0 k (omega arith) in
+    let s : x ≡ 8 * spot t ns q at = e ∙ omega (arith, rw z at w) in
+    let o : x / 8 ≡ spot t ns q at = omega (arith, s) in
+    let i : x / 8 < length ns = rw o (spot_below t ns held q b at k) in
+    record {
+      within = k;
+      few = omega (arith, few_children t ns held q b);
+      slot = s;
+      node = i;
+      production = number_small t ns held (x / 8) i;
+      symbol = rw o (symbol_small t ns held q b at k);
+      every = rw o (child_sets t ns held q b at h k);
+      first = first_is at h;
+    }
+
+-- ---- the sets of a position, one by one
+
+-- set i has its slot, its rule and that rule's head
+pub record SetTurn (t ns : List ℕ) (q at number heads from i : ℕ) : Type 0 where
+  pub within : i < defined t (get_or ns q 0) at
+  pub has : Has t (get_or ns q 0) at i
+  pub slot_is : from + i ≡ 8 * spot t ns q at + (first_index at + i)
+  pub below : from + i < 8 * length ns
+  pub small : from + i < 4096
+  pub rule_is : number + i ≡ rule_of (get_or ns q 0) at i
+  pub rule_small : number + i < 1280
+  pub head_is : get_or t (heads + 2 * i) 0 ≡ head_at t (rule_of (get_or ns q 0) at i)
+
+module _ (t ns : List ℕ) (held : Held t ns) (q : ℕ) (b : q < length ns) (at number heads from count : ℕ) (sets : Sets t ns q at number heads from count) where
+  pub sets_few : count ≤ 4
+  sets_few = omega (arith, sets.every, (shaped t ns held q b).few at sets.within)
+
+  -- behind the last set comes the next position
+  pub sets_end : (i : ℕ) (a b left rule : List ℕ) → i ≤ count → count ≤ i → Partly t ns (20 * q + 4 * at + i) a b left rule → Partly t ns (20 * q + 4 * (at + 1)) a b left rule
+  sets_end i fa fb fl fr h k w =
+      let e : i ≡ defined t (get_or ns q 0) at = omega (arith, sets.every) in
+      skip_position t ns held q b at _ _ _ _ sets.within (rw e at w)
+
+  pub set_turn : (i : ℕ) → i < count → SetTurn t ns q at number heads from i
+  unfolding head_at rule_of
+  set_turn i h =
+      let w : i < defined t (get_or ns q 0) at = omega (arith, sets.every) in
+      let s : from + i ≡ 8 * spot t ns q at + (first_index at + i) = omega (arith, sets.slots) in
+      let l : from + i < 8 * length ns = rw s (slot_below t ns held q b at i sets.within w) in
+      let z : heads + 2 * i ≡ 97 + 2 * (20 * get_or ns q 0 + (4 * at + i)) = omega (arith, sets.rules, sets.words) in
+      record {
+        within = w;
+        has = slot_has t ns held q b at i sets.within w;
+        slot_is = s;
+        below = l;
+        small = omega (arith, l, held.few);
+        rule_is = omega (arith, sets.rules);
+        rule_small = omega (arith, sets.rules, sets.within, sets_few, few_children t ns held q b, number_small t ns held q b);
+        head_is = ap (λ n. get_or t n 0) z;
+      }

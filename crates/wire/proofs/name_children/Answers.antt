@@ -1,59 +1,48 @@
 -- From child to child: the names so far are written, and where the loop stands is the place of the next child. Assumes nothing.
-use Prim.Native.Nat.{ℕ, ◌<◌}
+use Prim.Native.Nat.{◌<◌}
 use mathlib.Core.Path.{ap, ◌∙◌}
-use mathlib.Core.List.{List}
 use native.Mathlib.Omega.{arith}
-use lib.ListN.{length, get_or}
 use Rattle.table.specs.Words.{child_count}
-use Rattle.table.proofs.Limits.{limits}
-use Rattle.wire.specs.Inner.Turns.{Held}
-use Rattle.wire.proofs.Places.{number_in}
 use Rattle.wire.proofs.Naming.{naming_none, naming_few, naming_in, naming_after, naming_more, naming_all}
 use Rattle.wire.proofs.name_children.Goals as goal
 
-number : (t ns : List ℕ) → Held t ns → (q : ℕ) → q < length ns → get_or ns q 0 < 64
-number t ns h q b = omega (arith, number_in t ns h.judged h.sound q b, (limits t h.judged).productions)
-
-pub child_count-count-requires : goal.child_count-count-requires
-child_count-count-requires c = omega (arith, c.index.ensures.0, number c.args.table.now c.args.productions.now c.requires.held c.args.q c.requires.q_in_bounds)
-
 pub loop-k-init : goal.loop-k-init
 loop-k-init c =
-    naming_none c.args.table.now c.args.productions.now c.args.q c.args.named.now c.child_count-count.result c.requires.own (c.child_count-count.ensures ∙ ap (child_count c.args.table.now) c.index.ensures.0)
+    naming_none c.args.table.now c.args.productions.now c.args.q c.args.named.now c.child_count-count.result c.requires.own (c.child_count-count.ensures ∙ ap (child_count c.args.table.now) c.from.ensures)
 
 pub name_child-requires-clause-q_le_node : goal.name_child-requires-clause-q_le_node
 name_child-requires-clause-q_le_node c =
     let k = c.loop-k in
     let m : k.k < c.child_count-count.result = omega arith in (
-      omega (arith, naming_after c.args.table.now c.args.productions.now c.args.ends.now c.requires.held c.requires.ends c.args.q c.requires.q_in_bounds k.named c.child_count-count.result k.next k.k k.invariant),
-      omega (arith, naming_in c.args.table.now c.args.productions.now c.args.ends.now c.requires.held c.requires.ends c.args.q c.requires.q_in_bounds k.named c.child_count-count.result k.next k.k k.invariant m),
+      omega (arith, naming_after _ _ c.args.ends.now c.requires.held c.requires.ends c.args.q c.requires.q_in_bounds k.named c.child_count-count.result k.next k.k k.invariant),
+      omega (arith, naming_in _ _ c.args.ends.now c.requires.held c.requires.ends c.args.q c.requires.q_in_bounds k.named c.child_count-count.result k.next k.k k.invariant m),
     )
 
 pub offset_bounds-ends-next : goal.offset_bounds-ends-next
 offset_bounds-ends-next c =
     let k = c.loop-k in
     let m : k.k < c.child_count-count.result = omega arith in
-    omega (arith, naming_in c.args.table.now c.args.productions.now c.args.ends.now c.requires.held c.requires.ends c.args.q c.requires.q_in_bounds k.named c.child_count-count.result k.next k.k k.invariant m)
+    omega (arith, naming_in _ _ c.args.ends.now c.requires.held c.requires.ends c.args.q c.requires.q_in_bounds k.named c.child_count-count.result k.next k.k k.invariant m)
 
 pub bounds-ends-next : goal.bounds-ends-next
 bounds-ends-next c =
     let k = c.loop-k in
     let m : k.k < c.child_count-count.result = omega arith in
-    omega (arith, naming_in c.args.table.now c.args.productions.now c.args.ends.now c.requires.held c.requires.ends c.args.q c.requires.q_in_bounds k.named c.child_count-count.result k.next k.k k.invariant m)
+    omega (arith, naming_in _ _ c.args.ends.now c.requires.held c.requires.ends c.args.q c.requires.q_in_bounds k.named c.child_count-count.result k.next k.k k.invariant m)
 
 pub loop-k-preserved : goal.loop-k-preserved
 loop-k-preserved c =
     let k = c.loop-k in
     let m : k.k < c.child_count-count.result = omega arith in
-    rw c.wide-next.ensures (naming_more c.args.table.now c.args.productions.now c.args.ends.now c.requires.held c.requires.ends c.args.q c.requires.q_in_bounds k.named c.child_count-count.result k.next k.k k.invariant _ m c.name_child.ensures)
+    rw c.from-next.ensures (naming_more _ _ c.args.ends.now c.requires.held c.requires.ends c.args.q c.requires.q_in_bounds k.named c.child_count-count.result k.next k.k k.invariant _ m c.name_child.ensures)
 
 pub returns-clause-named : goal.returns-clause-named
 returns-clause-named c =
     let k = c.loop-k in
-    let all = naming_all c.args.table.now c.args.productions.now c.args.ends.now c.requires.held c.requires.ends c.args.q c.requires.q_in_bounds k.named c.child_count-count.result k.next k.k k.invariant in
-    all (omega (arith, naming_few c.args.table.now c.args.productions.now c.args.ends.now c.requires.held c.requires.ends c.args.q c.requires.q_in_bounds k.named c.child_count-count.result k.next k.k k.invariant))
+    let all = naming_all _ _ c.args.ends.now c.requires.held c.requires.ends c.args.q c.requires.q_in_bounds k.named c.child_count-count.result k.next k.k k.invariant in
+    all (omega (arith, naming_few _ _ c.args.ends.now c.requires.held c.requires.ends c.args.q c.requires.q_in_bounds k.named c.child_count-count.result k.next k.k k.invariant))
 
 pub returns-then-count-k-clause-named : goal.returns-then-count-k-clause-named
 returns-then-count-k-clause-named c =
     let k = c.loop-k in
-    naming_all c.args.table.now c.args.productions.now c.args.ends.now c.requires.held c.requires.ends c.args.q c.requires.q_in_bounds k.named c.child_count-count.result k.next k.k k.invariant c.if-count-k.true
+    naming_all _ _ c.args.ends.now c.requires.held c.requires.ends c.args.q c.requires.q_in_bounds k.named c.child_count-count.result k.next k.k k.invariant c.if-count-k.true

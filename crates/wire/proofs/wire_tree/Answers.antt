@@ -3,21 +3,14 @@ use mathlib.Core.Path.{◌≡◌}
 use native.Mathlib.Omega.{arith}
 use lib.ListN.{length}
 use Rattle.wire.proofs.Rooms.{stay_refl, stay_trans, blank_partly}
-use Rattle.wire.proofs.Reading.{beyond_is}
 use Rattle.wire.proofs.Ending.{wired_of}
 use Rattle.wire.proofs.wire_tree.Goals as goal
 
 pub loop-q-init : goal.loop-q-init
-loop-q-init c = (omega arith, c.name_root.ensures, blank_partly c.args.table.now c.args.productions.now _ _ _ _ c.blank.ensures.blank, stay_refl _ _ _ _ _)
-
-pub wire_left-requires-clause-beyond : goal.wire_left-requires-clause-beyond
-wire_left-requires-clause-beyond c = beyond_is
-
-pub wire_children-requires-clause-beyond : goal.wire_children-requires-clause-beyond
-wire_children-requires-clause-beyond c = beyond_is
+loop-q-init c = (c.name_root.ensures, blank_partly c.args.table.now c.args.productions.now _ _ _ _ c.blank.ensures.blank, stay_refl _ _ _ _ _)
 
 pub returns : goal.returns
 returns c =
     let i = c.loop-q.invariant in
-    let e : c.loop-q.q ≡ length c.args.productions.now = omega (arith, i.0, c.loop-q-test.false) in
-    wired_of c.args.table.now c.args.productions.now _ _ _ _ _ _ _ _ c.requires.held c.requires.room (stay_trans c.blank.ensures.stay i.3) (rw e at i.2)
+    let e : c.loop-q.q ≡ length c.args.productions.now = omega (arith, c.loop-q.auto.q-end, c.loop-q-test.false) in
+    wired_of c.args.table.now c.args.productions.now _ _ _ _ _ _ _ _ c.requires.held c.requires.room (stay_trans c.blank.ensures.stay i.2) (rw e at i.1)
