@@ -3,7 +3,7 @@
 
 ghost use Rattle.std.specs.Prelude.{◌≡◌, [], ◌∷◌, suc, ◌+◌, ◌-◌, ◌<◌, ◌≤◌, length, take};
 ghost use Rattle.refusal.specs.Numbers.{verdict_of};
-ghost use Rattle.table.specs.Words.{production_count, child_count, children_from};
+ghost use Rattle.table.specs.Words.{production_count, children};
 ghost use Rattle.table.specs.Limits.{Limits};
 ghost use Rattle.tree.specs.Tree.{nodes_most, judge_nodes, span_end};
 ghost use Rattle.tree.specs.Refusals.{JudgeTreeSays};
@@ -53,7 +53,8 @@ pub fn index(x: u8) -> usize
     x as usize
 }
 
-// Reads one subtree of `symbol` at `at`: a node, and behind it the subtrees of its children in their order. Where what it read ends, or what is wrong there.
+// Reads one subtree of `symbol` at `at`: a node, and behind it the row of its children. Where what it read ends, or what is wrong there.
+#[cycle(row_subtree)]
 fn subtree(
     table: &[u64; WORDS],
     productions: &[u8],
@@ -74,9 +75,25 @@ fn subtree(
     if left_of(table, p) != symbol {
         return Err(Refusal::Shape);
     }
-    let mut next = at + 1;
-    for child in 0..child_count(table, p) {
-        next = subtree(table, productions, next, child_of(table, p, child))?;
+    row(table, productions, at + 1, p)
+}
+
+// Reads the row of a production's children, each by the reading of a subtree. What is unread falls from call to call.
+#[cycle(row_subtree)]
+fn row(
+    table: &[u64; WORDS],
+    productions: &[u8],
+    at: usize,
+    production: usize,
+) -> Result<usize, Refusal>
+    requires limits { Limits table.now }
+    requires at_in_bounds { at ≤ length productions.now }
+    requires production_bound { production < production_count table.now }
+    ensures { Says table.now productions.now at at (children table.now production) result }
+{
+    let mut next = at;
+    for child in 0..child_count(table, production) {
+        next = subtree(table, productions, next, child_of(table, production, child))?;
     }
     Ok(next)
 }
@@ -92,9 +109,10 @@ pub fn judge_nodes(table: &[u64; WORDS], productions: &[u8], symbol: usize) -> R
     }
     let over = usize::from(productions[next]);
     if production_count(table) <= over {
-        return Err(Refusal::Production);
+        Err(Refusal::Production)
+    } else {
+        Err(Refusal::Shape)
     }
-    Err(Refusal::Shape)
 }
 
 // The same of the first `n` nodes of a longer slice.
@@ -131,14 +149,14 @@ fn end_of(table: &[u64; WORDS], productions: &[u8], ends: &[u16], at: usize) -> 
     ensures { result ≡ span_end table.now productions.now at }
 {
     let p = usize::from(productions[at]);
-    let mut next = at + 1;
+    let mut behind = at + 1;
     for _ in 0..child_count(table, p) {
-        if productions.len() <= next {
-            return next;
+        if productions.len() <= behind {
+            return behind;
         }
-        next = usize::from(ends[next]);
+        behind = usize::from(ends[behind]);
     }
-    next
+    behind
 }
 
 // Writes the end of each node's subtree, from the last node to the first: each node looks at its children alone.

@@ -4,4 +4,4 @@ use Rattle.tree.specs.Tree.{child_at}
 use Rattle.tree.proofs.end_of.Given as goal
 
 abbrev pub invariant-loop : goal.invariant-loop
-invariant-loop l = l.next ≡ child_at l.table l.productions l.at l.counter
+invariant-loop l = l.behind ≡ child_at l.table l.productions l.at l.counter
