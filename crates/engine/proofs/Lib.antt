@@ -5,3 +5,4 @@ pub mod Listed
 pub mod Preparing
 pub mod Stepping
 pub mod Unique
+pub mod Views

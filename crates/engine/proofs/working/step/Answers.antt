@@ -1,13 +1,11 @@
--- What refuses changes nothing. Assumes nothing.
-use Rattle.std.proofs.Common.{sym}
+-- What refuses changes nothing; what is made over the arrays is made over the system of the table and the tree. Assumes nothing.
 use Rattle.refusal.proofs.Distinct.{handed}
-use Rattle.update.specs.Memories.{lent}
-use Rattle.update_judge.proofs.Orders.{going}
 use Rattle.engine.proofs.Stepping.{step_refused}
+use Rattle.engine.proofs.Views.{step_over}
 use Rattle.engine.proofs.working.step.Goals as goal
 
-pub step_going-requires : goal.step_going-requires
-step_going-requires c = going c.args.table.now (lent c.args.held.now c.args.held_owns.now c.args.sets.now c.args.earlier.now) c.args.«record» (sym c.in_ok-judge_step.ensures)
+pub returns : goal.returns
+returns c = step_over c.in_ok-arrays.ensures c.views.ensures _ _ c.step_in.ensures
 
-pub returns-in_err-judge_step : goal.returns-in_err-judge_step
-returns-in_err-judge_step c = rw (handed _ _ c.from_residual.ensures.1) (step_refused c.args.table.now (lent c.args.held.now c.args.held_owns.now c.args.sets.now c.args.earlier.now) c.args.«record» _ c.in_err-judge_step.ensures)
+pub returns-in_err-arrays : goal.returns-in_err-arrays
+returns-in_err-arrays c = rw (handed _ _ c.from_residual.ensures.1) (step_refused _ _ _ _ c.in_err-arrays.ensures)
