@@ -5,10 +5,10 @@
 
 ghost use Rattle.std.specs.Prelude.{◌≤◌, length};
 
+use refusal::Refusal;
 use std::env::Env;
 use std::io;
 use std::io::{Cursor, Read, Stdout};
-use refusal::Refusal;
 use text::{ReadTable, ReadTree, read_table, read_tree, write_table, write_tree};
 
 // How far: 1 to 3, or 0 for a word that it doesn't know.

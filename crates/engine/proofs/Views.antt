@@ -1,12 +1,11 @@
 -- The arrays of the held tree, and what is made over their views. Assumes nothing.
-use Rattle.std.specs.Prelude.{Ok, Err}
-use mathlib.Core.Path.{◌≡◌, refl, sym}
+use Rattle.std.specs.Prelude.{Ok}
+use mathlib.Core.Path.{◌≡◌, sym}
 use mathlib.Core.List.{List}
 use Prim.Native.Nat.{ℕ, ◌*◌, ◌≤◌}
 use native.Mathlib.Omega.{arith}
 use lib.ListN.{length}
 use lib.Seq.{length-take-le}
-use Rattle.refusal.specs.declared.Refusal.{Refusal}
 use Rattle.climb.specs.declared.Wires.{Wires}
 use Rattle.climb.specs.Inner.Wires.{wired_by}
 use Rattle.wire.specs.Inner.Turns.{Held}

@@ -1,14 +1,13 @@
 -- Bytes of a piece behind those of a begun line: what stands in the window then, and that some byte or the piece's end decides. Assumes nothing.
-use Rattle.std.proofs.Common.{◌≡◌, ◌≢◌, ℕ, ◌+◌, ◌-◌, ◌≤◌, ◌<◌, ◌⊎◌, ⊎_elim, min, Bool, true, false, nat_eq, nat_lt, cond, List, ◌++◌, length, get_or, take, drop, Option, Some, None, position, refl, ap, sym, ◌∙◌, arith, rules}
+use Rattle.std.proofs.Common.{◌≡◌, ◌≢◌, ℕ, ◌+◌, ◌-◌, ◌≤◌, ◌<◌, ◌⊎◌, ⊎_elim, min, Bool, true, false, nat_eq, nat_lt, cond, List, ◌++◌, length, get_or, take, drop, Option, Some, None, position, refl, ap, sym, ◌∙◌, arith}
 use Rattle.std.specs.List.{position_or_len}
-use Rattle.std.proofs.lemmas.Bool.Decides.{nat_tests}
-use Rattle.std.proofs.lemmas.List.{length-append, length-take, length-drop, length-take-le, get_or-take, get_or_append_left, get_or-append_right, take-append-le, drop-append-le, take_all, take_min, drop_min}
+use Rattle.std.proofs.lemmas.List.{length-append, length-take, length-drop, length-take-le, get_or-take, get_or_append_left, get_or-append_right, take_all, take_min, drop_min}
 use Rattle.std.proofs.lemmas.Slice.{take-put_mid, drop-put_mid}
 use Rattle.std.proofs.lemmas.List.Quantifiers.{position-Some}
 use Rattle.std.proofs.lemmas.List.Sums.{fails_before_first}
 use borrow.Rule.Slice.PartMut.{put_mid}
 use lib.Seq.{take-take}
-use borrow.Author.Tests.{eqb-true, eqb-false, ltb-false, ne_eqb, eq-eqb}
+use borrow.Author.Tests.{eqb-true, eqb-false, ltb-false}
 use Rattle.text_line.proofs.Values.{lt_or_ge}
 use Rattle.session_owed.specs.Owed.{Begun, Whole}
 use Rattle.session_memory.specs.Gathering.{Gathers, Gathering, AlwaysGathers}

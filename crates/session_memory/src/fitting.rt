@@ -1,9 +1,8 @@
 // Whether the memory lent can be a session's: a public call takes any.
-ghost use Rattle.std.specs.Prelude.{◌≡◌, true, not, ◌≤◌, length, take};
+ghost use Rattle.std.specs.Prelude.{◌≡◌, not, ◌≤◌, length, take};
 ghost use Rattle.refusal.specs.Numbers.{verdict_of};
 ghost use Rattle.refusal.specs.Orders.{refusal_by};
 ghost use Rattle.update.specs.Memories.{lent};
-ghost use Rattle.text_frame.specs.Walk.{is_on};
 ghost use Rattle.text_table.specs.Read.{Awaits};
 ghost use Rattle.session_owed.specs.Owed.{owns_kept, Begun};
 ghost use Rattle.session_memory.specs.Suspended.{Wide, Tests};

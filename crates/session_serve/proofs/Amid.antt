@@ -6,7 +6,7 @@ use Rattle.session_memory.specs.Suspended.{Suspended, owed_for}
 use Rattle.session_feed.specs.declared.Fed.{Fed}
 use Rattle.session_feed.specs.Feeding.{fed_to, Feeds, FeedSays, takes, refuses}
 use Rattle.session_feed.specs.Laws as laws
-use Rattle.session_feed.specs.Laws.{Again, Calls, Piece}
+use Rattle.session_feed.specs.Laws.{Again, Calls}
 use Rattle.session_feed.proofs.Cutting.{owed_less}
 use Rattle.session_serve.specs.Serving.{Served, PieceServed}
 

@@ -46,11 +46,7 @@ fn misplaced(line: u32) -> Misread
     }
 }
 
-fn take_header(
-    table: &mut [u64; 2657],
-    rule: Rule,
-    line: u32,
-) -> Result<Expected, Misread>
+fn take_header(table: &mut [u64; 2657], rule: Rule, line: u32) -> Result<Expected, Misread>
     requires { length table.old ≡ table_words }
     ensures { (result ≡ taken_at table.old AtHeader (kind.Rule rule) line) × (table.new ≡ words_after table.old AtHeader (kind.Rule rule)) }
 {

@@ -5,9 +5,9 @@ ghost use Rattle.text_table.specs.Reading.{reading_at, Ends};
 ghost use Rattle.text_table.specs.Calls.{ReadTableSays};
 ghost use Rattle.table.specs.Words.{table_words};
 
+use crate::ReadTable;
 use crate::read::take_frame;
 use crate::write::is_on;
-use crate::ReadTable;
 use refusal::Refusal;
 use table::WORDS;
 use text_frame::{Expected, Misread, next_at};
