@@ -1,14 +1,16 @@
 -- Tests over the members of a list, and the first place where a test holds. Assumes nothing.
-use mathlib.Core.Path.{◌≡◌, refl, sym}
+use mathlib.Core.Path.{◌≡◌, refl, sym, ap, ◌∙◌}
 use mathlib.Core.Bool.{Bool, true, false, ◌&&◌, ◌||◌, true≢false, or-true}
 use mathlib.Core.Logic.{◌⊎◌, inl, inr, ⊎_elim}
 use mathlib.Core.List.Memᴰ
 use mathlib.Core.List.{List, [], ◌∷◌, map}
 use Prim.Native.Nat.{ℕ, zero, suc, ◌+◌, ◌≤◌, ◌<◌}
 use native.Mathlib.Nat.{eq-or-lt_of_le, le_refl}
+use native.Mathlib.Numerals.{add-one}
 use native.Mathlib.Omega.{arith}
 use lib.Dec.{eqb, ltb}
 use borrow.Author.Tests.{eqb-true, eq-eqb, ltb-true, ltb-false}
+use Rattle.std.specs.List.{list_any, range_with_len}
 use Rattle.circles.specs.Graph.{◌∈◌}
 use Rattle.circles.specs.Ranked.{member, any_of, all_of, keep, up_from}
 use Rattle.climb.specs.Climb.{least_from}
@@ -98,6 +100,19 @@ pub all_is : (f : ℕ → Bool) (l : List ℕ) → all_of f l ≡ true → (x : 
 all_is f [] h x m = elim m [ ]
 all_is f (y ∷ l) h x (Memᴰ.head p) = rw p (and_is {a = f y} h).0
 all_is f (y ∷ l) h x (Memᴰ.tail m) = all_is f l (and_is {a = f y} h).1 x m
+
+-- what the library's tests over a list and over a range are
+pub any_is : (p : ℕ → Bool) (l : List ℕ) → list_any p l ≡ any_of p l
+any_is p [] = refl
+any_is p (x ∷ l) = ap (λ (b : Bool). p x || b) (any_is p l)
+
+pub up_is : (n k : ℕ) → range_with_len k n ≡ up_from k n
+unfolding up_from
+up_is zero k = refl
+up_is (suc n) k = rw add-one (ap (λ (l : List ℕ). k ∷ l) (up_is n (suc k)))
+
+pub any_up : (p : ℕ → Bool) (n : ℕ) → list_any p (range_with_len 0 n) ≡ any_of p (up_from 0 n)
+any_up p n = any_is p (range_with_len 0 n) ∙ ap (any_of p) (up_is n 0)
 
 -- ---- the first place
 

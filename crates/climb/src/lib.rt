@@ -10,7 +10,7 @@ ghost use Rattle.climb.specs.Inner.Wired.{read_of, Span};
 ghost use Rattle.climb.specs.Inner.Wires.{wired_by, RowBy, RowsBy};
 
 use sets::value;
-use table::equation_at;
+use table::{WORDS, equation_at};
 
 // The wiring of n slots: of slot x the arguments are a[x] and b[x], the left node of its equation is left[x] and its rule in the table is rule[x].
 #[derive(Clone, Copy)]
@@ -31,7 +31,7 @@ fn read(sets: &[u64], y: usize, n: usize) -> u64
 }
 
 // The value of the equation of x.
-fn evaluate(table: &[u64; 2657], owns: &[u64], wires: Wires, sets: &[u64], x: usize) -> u64
+fn evaluate(table: &[u64; WORDS], owns: &[u64], wires: Wires, sets: &[u64], x: usize) -> u64
     requires row { RowBy owns.now wires x }
     requires n_in_bounds { wires.n ≤ length sets.now }
     ensures { result ≡ (wired_by table.now owns.now wires.entry).eval (at sets.now) x }
@@ -45,7 +45,7 @@ fn evaluate(table: &[u64; 2657], owns: &[u64], wires: Wires, sets: &[u64], x: us
 
 // The values of a round, each at its member's place; whether none differs from the set held.
 fn compute(
-    table: &[u64; 2657],
+    table: &[u64; WORDS],
     owns: &[u64],
     wires: Wires,
     circle: &[u16],
@@ -81,7 +81,7 @@ fn store(circle: &[u16], values: &[u64], sets: &mut [u64])
 
 // One round of a circle: whether it altered nothing. The values pass through `values`, each at its member's place.
 pub fn round(
-    table: &[u64; 2657],
+    table: &[u64; WORDS],
     owns: &[u64],
     wires: Wires,
     circle: &[u16],

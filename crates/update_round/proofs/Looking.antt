@@ -12,7 +12,6 @@ use lib.Dec.{eqb, ltb}
 use borrow.Author.Tests.{eq-eqb, ltb-true}
 use lib.ListN.{length, get_or}
 use lib.Seq.{slice, length-slice}
-use Rattle.std.specs.List.{list_any}
 use Rattle.circles.specs.Graph.{◌∈◌}
 use Rattle.circles.specs.Arrays.{given, graph_of}
 use Rattle.circles.specs.Ranked.{circle_at, member, any_of}
@@ -39,12 +38,6 @@ given_in n a b = by (ltb a n) (ltb b n) (λ h. ltb-true a n h) (λ h. ltb-true b
     by false true p q y (Memᴰ.head e) = rw e (q refl)
     by false true p q y (Memᴰ.tail m) = elim m [ ]
     by false false p q y m = elim m [ ]
-
--- ---- due
-
-pub any_is : (p : ℕ → Bool) (l : List ℕ) → list_any p l ≡ any_of p l
-any_is p [] = refl
-any_is p (x ∷ l) = ap (λ (b : Bool). p x || b) (any_is p l)
 
 -- ---- a circle in its place
 

@@ -6,6 +6,7 @@ ghost use Rattle.climb.specs.Inner.Wires.{wired_by, RowsBy};
 ghost use Rattle.update_round.specs.Inner.Says.{RoundSays};
 
 use climb::{Wires, empty_circle, lone, round};
+use table::WORDS;
 
 // Before round 1 a circle that isn't lone becomes empty.
 #[tactic(auto, using(crate::proofs::Rounding::ready_later, crate::proofs::Rounding::ready_alone, crate::proofs::Rounding::ready_first))]
@@ -20,7 +21,7 @@ fn make_ready(alone: bool, k: u64, circle: &[u16], sets: &mut [u64])
 
 // Round k of a circle: whether it closes.
 pub fn round_at(
-    table: &[u64; 2657],
+    table: &[u64; WORDS],
     owns: &[u64],
     wires: Wires,
     circle: &[u16],

@@ -1,3 +1,2 @@
-pub mod Scanning
 pub mod Nines
 pub mod Tests

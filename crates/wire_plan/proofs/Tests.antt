@@ -5,38 +5,19 @@ use mathlib.Core.List.{List}
 use mathlib.Core.Logic.{⊎_elim}
 use Prim.Native.Nat.{ℕ, ◌*◌, ◌≤◌, ◌<◌}
 use native.Mathlib.Omega.{arith}
-use borrow.Author.Tests.{lt-ltb, le-ltb}
-use lib.Dec.{eqb}
 use lib.ListN.{length, get_or, drop, length-append, length-drop}
 use Rattle.circles.specs.Arrays.{graph_of, over}
 use Rattle.circles.specs.Ranked.{labels_of}
 use Rattle.circles.proofs.Least.{labels_long}
-use Rattle.circles.proofs.Lists.{default_is}
 use Rattle.climb.proofs.Lists.{either}
 use Rattle.wire.specs.Instances.{declared}
 use Rattle.wire.specs.Arrays.{by_slot, first_at, second_at, rule_in}
-use Rattle.wire.specs.Inner.ArrayLaws.{waives_at, waives_in}
+use Rattle.wire.specs.Inner.ArrayLaws.{waives_in}
 use Rattle.wire.specs.Inner.Turns.{Held}
 use Rattle.wire.specs.Waivers.{waives}
 use Rattle.wire.proofs.Holding.{held_at, slots_length, wired_alike, wired_whole}
 use Rattle.wire.proofs.Testing.{waives_wired}
-use Rattle.wire_plan.specs.Inner.Nines.{is_nine}
 use Rattle.wire_plan.specs.Inner.Prepared.{Prepared, Tested, PreparedTested}
-
--- ---- one slot
-
-module _ (n : ℕ) (t b rule label : List ℕ) (x y : ℕ) (k : Tested n b rule label) (l : x < n) (e : y ≡ get_or b x 0) where
-  second : get_or b x 65534 ≡ y
-  second = sym (e ∙ default_is b x 0 65534 (omega (arith, k.seconds)))
-
-  pub none_waived : n ≤ y → false ≡ waives_at n t b rule label x
-  none_waived h = rw (second, le-ltb y n h)
-
-  pub nine_waived : y < n → is_nine t (get_or rule x 0) ≡ true → eqb (get_or label y 0) (get_or label x 0) ≡ waives_at n t b rule label x
-  nine_waived h i = rw (second, lt-ltb y n h, i, default_is label y 0 65535 (omega (arith, k.labels)), default_is label x 0 65535 (omega (arith, k.labels)))
-
-  pub other_waived : y < n → is_nine t (get_or rule x 0) ≡ false → false ≡ waives_at n t b rule label x
-  other_waived h i = rw (second, lt-ltb y n h, i)
 
 -- ---- the tree
 

@@ -10,7 +10,7 @@ use Rattle.circles.specs.Ranked.{any_of}
 use Rattle.climb.specs.Memory.{at}
 use Rattle.update.specs.Steps.{sown_of}
 use Rattle.update_round.specs.Inner.Tests.{moved_in, due_in}
-use Rattle.update_round.proofs.Looking.{any_is}
+use Rattle.climb.proofs.Lists.{any_is}
 use Rattle.update_round.proofs.due.is_due.Goals as goal
 
 pub any-requires-clause-callable : goal.any-requires-clause-callable
