@@ -119,20 +119,6 @@ judged_by (suc n) next line h = refl
 pub stopped_by : (r : Refusal) (next : Expected) (line : ℕ) → Err (misread r line) ≡ judged_at (number_of r) next line
 stopped_by r next line = ap (λ (q : Refusal). Err (misread q line)) (sym (by_number r)) ∙ judged_by (number_of r) next line (number_low r)
 
--- a judgement's refusal, named at a line
-pub record Named (n line : ℕ) (m : Misread) : Type 0 where
-  pub refusal : Refusal
-  pub is : m ≡ misread refusal line
-  pub by : number_of refusal ≡ n
-
-pub named : (v : Result (Unit {0}) Refusal) {n line : ℕ} {m : Misread} → MatchResult v (λ x. ◌≡◌ {A = Result (Unit {0}) Misread} (Err m) (Ok x)) (λ e. m ≡ misread e line) → verdict_of v ≡ n → Named n line m
-named (Ok x) w h = absurd (let z : ◌≡◌ {A = ℕ} 0 1 = cc in omega arith)
-named (Err e) w h = record { refusal = e; is = w; by = h }
-
-pub passed : (v : Result (Unit {0}) Refusal) {n : ℕ} → true ≡ is_ok v → verdict_of v ≡ n → n ≡ 0
-passed (Ok x) w h = sym h
-passed (Err e) w h = absurd (true≢false w)
-
 -- what is answered
 module _ (t : List ℕ) (x : Expected) (f : Frame) (line : ℕ) where
   pub other_taken : eqb (type_of f) (type_at x) ≡ false → Err (strange_at f line) ≡ taken_at t x f line

@@ -5,7 +5,7 @@ use Rattle.std.proofs.Common.{Result, Ok, Err}
 use Prim.Native.Nat.{ℕ, suc, ◌+◌, ◌-◌, ◌≤◌, ◌<◌}
 use native.Mathlib.Omega.{arith}
 use native.Mathlib.Numerals.{add-one}
-use lib.ListN.{length, set, length-set}
+use lib.ListN.{set}
 use lib.Seq.{sets}
 use Rattle.refusal.specs.declared.Refusal.{Refusal}
 use Rattle.refusal.specs.declared.Refusal.TheVariants as why
@@ -113,9 +113,6 @@ stored_none n (bad refusal line) a b a' b' r l e = tt
 
 -- where the reading stands: i nodes are read and stored, and reading on from here gives the same
 pub record Onward (s : List ℕ) (count place line : ℕ) (a₀ b₀ a b : List ℕ) (i at l : ℕ) : Type 0 where
-  pub upto : i ≤ count
-  pub long : length a ≡ length a₀
-  pub long_owns : length b ≡ length b₀
   pub answer : answer_of count (nodes_at count s place line) ≡ answer_of count (nodes_at (count - i) s at l)
   pub productions : put_at 0 (nodes_at count s place line) a₀ ≡ put_at i (nodes_at (count - i) s at l) a
   pub owns : put_owns_at 0 (nodes_at count s place line) b₀ ≡ put_owns_at i (nodes_at (count - i) s at l) b
@@ -124,27 +121,14 @@ module _ (s : List ℕ) (count place line : ℕ) (a₀ b₀ : List ℕ) where
   abbrev all : Nodes
   all = nodes_at count s place line
 
-  pub onward_start : Onward s count place line a₀ b₀ a₀ b₀ 0 place line
-  onward_start =
-      let z : count ≡ count - 0 = omega arith in
-      record {
-        upto = omega arith;
-        long = refl;
-        long_owns = refl;
-        answer = ap (λ (n : ℕ). answer_of count (nodes_at n s place line)) z;
-        productions = ap (λ (n : ℕ). put_at 0 (nodes_at n s place line) a₀) z;
-        owns = ap (λ (n : ℕ). put_owns_at 0 (nodes_at n s place line) b₀) z;
-      }
-
   module _ (a b : List ℕ) (i at l : ℕ) (k : Onward s count place line a₀ b₀ a b i at l) where
     -- at the end
-    pub onward_end : count ≤ i → (Ok (tree_read i at l) ≡ tree_answer all) × Stored all a₀ b₀ a b
+    pub onward_end : count ≤ i → (Ok (tree_read count at l) ≡ tree_answer all) × Stored all a₀ b₀ a b
     unfolding nodes_at
     onward_end h =
         let z : count - i ≡ 0 = omega arith in
-        let n : i ≡ count = omega (arith, k.upto) in
         let e : answer_of count all ≡ Ok (tree_read count at l) = k.answer ∙ ap (λ (m : ℕ). answer_of count (nodes_at m s at l)) z in (
-          ap (λ (m : ℕ). Ok (tree_read m at l)) n ∙ sym e ∙ by_count count s place line all refl,
+          sym e ∙ by_count count s place line all refl,
           stored_all count i all a₀ b₀ a b at l e (k.productions ∙ ap (λ (m : ℕ). put_at i (nodes_at m s at l) a) z) (k.owns ∙ ap (λ (m : ℕ). put_owns_at i (nodes_at m s at l) b) z),
         )
 
@@ -170,9 +154,6 @@ module _ (s : List ℕ) (count place line : ℕ) (a₀ b₀ : List ℕ) where
           let more : Nodes = nodes_at (count - (i + 1)) s r.place r.line in
           let g : nodes_at (count - i) s at l ≡ node_before p o more = turn ∙ ap (λ (v : Frame). node_then v l more) f in
           record {
-            upto = omega arith;
-            long = ap length x ∙ length-set a i p ∙ k.long;
-            long_owns = ap length y ∙ length-set b i o ∙ k.long_owns;
             answer = k.answer ∙ ap (answer_of count) g ∙ answer_before count p o more;
             productions = k.productions ∙ ap (λ (v : Nodes). put_at i v a) g ∙ put_before i p o more a ∙ (λ j. put_at (sym (add-one i) j) more (sym x j));
             owns = k.owns ∙ ap (λ (v : Nodes). put_owns_at i v b) g ∙ put_owns_before i p o more b ∙ (λ j. put_owns_at (sym (add-one i) j) more (sym y j));

@@ -3,10 +3,10 @@ use mathlib.Core.Path.{◌≡◌, refl, ap, sym, ◌∙◌}
 use mathlib.Core.Bool.{Bool, true, false, cond, ◌||◌}
 use mathlib.Core.Logic.{⊎_elim}
 use mathlib.Core.List.{List, [], ◌∷◌}
-use Rattle.std.proofs.Common.{Ok, Err}
+use Rattle.std.proofs.Common.{Ok}
 use Prim.Native.Nat.{ℕ, zero, suc, ◌≤◌, ◌<◌}
 use native.Mathlib.Omega.{arith}
-use borrow.Author.Tests.{lt-ltb, le-ltb, eq-eqb}
+use borrow.Author.Tests.{lt-ltb, eq-eqb}
 use lib.Dec.{ltb}
 use lib.ListN.{length, take}
 use lib.Seq.{sets}
@@ -15,15 +15,13 @@ use Rattle.refusal.specs.declared.Refusal.{Refusal}
 use Rattle.text_line.proofs.Values.{lt_or_ge}
 use Rattle.refusal.specs.Orders.{or_else, when, refusal_by}
 use Rattle.table.specs.Judge.{judge_table}
-use Rattle.refusal.proofs.Orders.{or_left, or_none}
+use Rattle.refusal.proofs.Orders.{or_none}
 use Rattle.tree.specs.Tree.{judge_nodes, judge_tree}
 use Rattle.refusal.proofs.Distinct.{number_low}
 use Rattle.text_tree.specs.Written.{refusal_of}
 use Rattle.text_tree.specs.Planting.{Nodes, good, bad, tree_at}
 use Rattle.text_tree.specs.Growing.{unless, room_refusal, fitted, planting_at, tree_read, tree_answer, productions_after, owns_after, Stored, grown_order, kept_order}
 use Rattle.text_tree.specs.Laws.{AllFit}
-use Rattle.text_frame.specs.Calls.{misread}
-use Rattle.text_frame.specs.declared.Misread.{Misread}
 use Rattle.text_tree.specs.declared.ReadTree.{ReadTree}
 use Rattle.text_tree.proofs.Numbers.{by_number}
 use Rattle.text_tree.proofs.Copying.{front}
@@ -35,32 +33,6 @@ some (suc n) start x h = refl
 
 pub refused_nodes : (r : Refusal) (n start : ℕ) (x : Nodes) → number_of r ≡ n → unless n start x ≡ bad r start
 refused_nodes r n start x e = ap (λ (m : ℕ). unless m start x) (sym e) ∙ some (number_of r) start x (number_low r) ∙ ap (λ (q : Refusal). bad q start) (by_number r)
-
--- ---- 8, 6/7, 15, in the order in which the code finds them
-
-module _ (t a : List ℕ) (n room room_owns : ℕ) where
-  abbrev number : ℕ
-  number = refusal_by (kept_order t a n room room_owns)
-
-  pub by_size : 512 < n → 8 ≡ number
-  unfolding refusal_by
-  by_size h = rw (lt-ltb 512 n h)
-
-  pub by_shape : n ≤ 512 → (r : Refusal) → number_of r ≡ judge_nodes t (take n a) (0 ∷ []) → number_of r ≡ number
-  unfolding refusal_by
-  by_shape h r e = rw (le-ltb 512 n h, ← e) (sym (or_left (number_of r) _ (number_low r)))
-
-  pub by_room : n ≤ 512 → judge_nodes t (take n a) (0 ∷ []) ≡ 0 → room < n → 15 ≡ number
-  unfolding refusal_by
-  by_room h e k = rw (le-ltb 512 n h, e, lt-ltb room n k)
-
-  pub by_owns : n ≤ 512 → judge_nodes t (take n a) (0 ∷ []) ≡ 0 → n ≤ room → room_owns < n → 15 ≡ number
-  unfolding refusal_by
-  by_owns h e k l = rw (le-ltb 512 n h, e, le-ltb room n k, lt-ltb room_owns n l)
-
-  pub by_none : n ≤ 512 → judge_nodes t (take n a) (0 ∷ []) ≡ 0 → n ≤ room → n ≤ room_owns → 0 ≡ number
-  unfolding refusal_by
-  by_none h e k l = rw (le-ltb 512 n h, e, le-ltb room n k, le-ltb room_owns n l)
 
 -- nothing refuses: there are at most 512 nodes, and there is room
 pub record Roomed (n room room_owns : ℕ) : Type 0 where
@@ -101,14 +73,6 @@ found (good ps owns p l) c place line e =
     let v : l ≡ line = ap (λ (x : ReadTree). x.line) q in
     record { ps = ps; owns = owns; is = cc; count = ap (λ (x : ReadTree). x.count) q }
 found (bad r l) c place line e = absurd (let z : ◌≡◌ {A = ℕ} 0 1 = cc in omega arith)
-
-pub not_found : (x : Nodes) (r : Refusal) (line : ℕ) → tree_answer x ≡ Err (misread r line) → x ≡ bad r line
-not_found (good ps owns p l) r line e = absurd (let z : ◌≡◌ {A = ℕ} 0 1 = cc in omega arith)
-not_found (bad q l) r line e =
-    let k : misread q l ≡ misread r line = cc in
-    let u : q ≡ r = ap (λ (x : Misread). x.refusal) k in
-    let v : l ≡ line = ap (λ (x : Misread). x.line) k in
-    cc
 
 pub even : (ps owns : List ℕ) → AllFit ps owns → length ps ≡ length owns
 even [] [] f = refl

@@ -1,13 +1,12 @@
 -- Writing a tree: what is answered, lengths, and where each line goes. Assumes nothing.
 use mathlib.Core.Path.{◌≡◌, refl, ap, sym, ◌∙◌}
-use mathlib.Core.List.{List, [], ◌∷◌, ◌++◌}
+use mathlib.Core.List.{List, [], ◌∷◌}
 use mathlib.Core.Logic.{⊎_elim}
 use Rattle.std.proofs.Common.{Err}
 use Prim.Native.Nat.{ℕ, zero, suc, ◌+◌, ◌*◌, ◌≤◌, ◌<◌, ◌^◌}
 use native.Mathlib.Omega.{arith}
-use native.Mathlib.Numerals.{add-one}
-use lib.ListN.{length, get_or, drop, length-append}
-use lib.Seq.{sets, drop-cons, drop-length}
+use lib.ListN.{length, length-append}
+use lib.Seq.{sets}
 use Rattle.text_line.specs.Text.{field, eight, line_text}
 use Rattle.text_line.proofs.Values.{lt_or_ge}
 use Rattle.text_line.proofs.Fields.{fields_join, line_length}
@@ -61,14 +60,16 @@ unfolding text_of fields_of
 load_length n = line_length (fields_of (Change (Load n)))
 
 -- nodes
-pub nodes_next : (ps owns : List ℕ) (i : ℕ) → i < length ps → i < length owns
-    → nodes_text (drop i ps) (drop i owns) ≡ text_of (Node (get_or ps i 0) (get_or owns i 0)) ++ nodes_text (drop (i + 1) ps) (drop (i + 1) owns)
+pub node_stored : {ps owns ps' owns' : List ℕ} (p o place : ℕ) (l : List ℕ) → ps ≡ p ∷ ps' → owns ≡ o ∷ owns'
+    → sets l place (nodes_text ps owns) ≡ sets (sets l place (text_of (Node p o))) (place + 21) (nodes_text ps' owns')
 unfolding nodes_text
-nodes_next ps owns i h k = rw (add-one, drop-cons ps i 0 h, drop-cons owns i 0 k)
+node_stored {ps' = ps'} {owns' = owns'} p o place l e f =
+    rw (e, f) (sets_append (text_of (Node p o)) (nodes_text ps' owns') l place ∙ ap (λ (n : ℕ). sets (sets l place (text_of (Node p o))) (place + n) (nodes_text ps' owns')) (node_length p o))
 
-pub nodes_none : (ps owns : List ℕ) → nodes_text (drop (length ps) ps) owns ≡ []
+pub nodes_none : (ps owns : List ℕ) → length ps ≡ 0 → nodes_text ps owns ≡ []
 unfolding nodes_text
-nodes_none ps owns = rw drop-length
+nodes_none [] owns e = refl
+nodes_none (p ∷ ps) owns e = absurd (omega arith)
 
 nodes_length : (ps owns : List ℕ) → length ps ≡ length owns → length (nodes_text ps owns) ≡ 21 * length ps
 unfolding nodes_text

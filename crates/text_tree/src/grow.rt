@@ -20,36 +20,22 @@ use tree::{NODES, judge_held};
 fn no_node(frame: Frame, line: u32) -> Misread
     ensures { Err result ≡ tree_answer (stray frame line) }
 {
-    let Frame::Refused { refusal, line: own } = frame else {
-        return Misread {
+    match frame {
+        Frame::Refused { refusal, line } => Misread { refusal, line },
+        _ => Misread {
             refusal: Refusal::Frame,
-            line: line,
-        };
-    };
-    Misread {
-        refusal: refusal,
-        line: own,
+            line,
+        },
     }
 }
 
-// Stores a node's production where there is room.
-fn keep_production(productions: &mut [u8], i: usize, production: u8)
-    ensures { productions.new ≡ set productions.old i production }
+// Stores an item of a node where there is room.
+fn keep<T: Copy>(memory: &mut [T], i: usize, item: T)
+    ensures { memory.new ≡ set memory.old i item }
 {
-    if productions.len() <= i {
-        return;
+    if i < memory.len() {
+        memory[i] = item;
     }
-    productions[i] = production;
-}
-
-// Stores a node's own set where there is room.
-fn keep_own(owns: &mut [u64], i: usize, own: u64)
-    ensures { owns.new ≡ set owns.old i own }
-{
-    if owns.len() <= i {
-        return;
-    }
-    owns[i] = own;
 }
 
 // Reads the lines of so many nodes, and keeps those for which there is room: a command may announce more than are kept.
@@ -63,23 +49,20 @@ fn read_nodes(
 ) -> Result<ReadTree, Misread>
     ensures { (result ≡ tree_answer (nodes_at count text.now place line)) × Stored (nodes_at count text.now place line) productions.old owns.old productions.new owns.new }
 {
-    let mut i: usize = 0;
     let mut at = place;
     let mut l = line;
-    while i < count {
+    for i in 0..count {
         let step = next_at(text, at, l);
-        let frame = step.frame;
-        let Frame::Node { production, own } = frame else {
-            return Err(no_node(frame, l));
+        let Frame::Node { production, own } = step.frame else {
+            return Err(no_node(step.frame, l));
         };
-        keep_production(productions, i, production);
-        keep_own(owns, i, own);
+        keep(productions, i, production);
+        keep(owns, i, own);
         at = step.place;
         l = step.line;
-        i += 1;
     }
     Ok(ReadTree {
-        count: i,
+        count,
         place: at,
         line: l,
     })
@@ -96,20 +79,24 @@ fn read_lines(
     ensures { (result ≡ tree_answer (tree_at text.now place line)) × Stored (tree_at text.now place line) productions.old owns.old productions.new owns.new }
 {
     let step = next_at(text, place, line);
-    let frame = step.frame;
-    let Frame::Change(change) = frame else {
-        return Err(no_node(frame, line));
+    let Frame::Change(change) = step.frame else {
+        return Err(no_node(step.frame, line));
     };
     let Change::Load { count } = change else {
-        return Err(no_node(frame, line));
+        return Err(no_node(step.frame, line));
     };
-    let n = count as usize;
-    let at = step.place;
-    let l = step.line;
-    read_nodes(text, n, at, l, productions, owns)
+    read_nodes(
+        text,
+        usize::from(count),
+        step.place,
+        step.line,
+        productions,
+        owns,
+    )
 }
 
 // Judges so many nodes that were read: 8, 6/7, then 15 for the memory that they are to go to.
+#[tactic(auto, unfolding(refusal::specs::Orders::refusal_by))]
 fn judge_read(
     table: &[u64; 2657],
     productions: &[u8],
@@ -124,37 +111,18 @@ fn judge_read(
         return Err(Refusal::Size);
     }
     judge_held(table, productions, count, 0)?;
-    if room < count {
-        return Err(Refusal::Buffer);
-    }
-    if room_owns < count {
+    if room < count || room_owns < count {
         return Err(Refusal::Buffer);
     }
     Ok(())
 }
 
-// Copies the first productions of one's own memory into lent memory.
-fn copy_productions(from: &[u8], count: usize, to: &mut [u8])
+// Copies the first items of one's own memory into lent memory.
+fn copy_front<T: Copy>(from: &[T], count: usize, to: &mut [T])
     requires { (count ≤ length from.now) × (count ≤ length to.old) }
     ensures { to.new ≡ sets to.old 0 (take count from.now) }
 {
-    let mut i: usize = 0;
-    while i < count {
-        to[i] = from[i];
-        i += 1;
-    }
-}
-
-// Copies the first own sets likewise.
-fn copy_owns(from: &[u64], count: usize, to: &mut [u64])
-    requires { (count ≤ length from.now) × (count ≤ length to.old) }
-    ensures { to.new ≡ sets to.old 0 (take count from.now) }
-{
-    let mut i: usize = 0;
-    while i < count {
-        to[i] = from[i];
-        i += 1;
-    }
+    to[..count].copy_from_slice(&from[..count]);
 }
 
 // Reads a tree over a judged table.
@@ -169,15 +137,16 @@ fn read_judged(
     requires { judge_table table.now ≡ 0 }
     ensures { (result ≡ tree_answer (fitted table.now line (length productions.old) (length owns.old) (tree_at text.now place line))) × ((productions.new ≡ productions_after (fitted table.now line (length productions.old) (length owns.old) (tree_at text.now place line)) productions.old) × (owns.new ≡ owns_after (fitted table.now line (length productions.old) (length owns.old) (tree_at text.now place line)) owns.old)) }
 {
-    let mut ps = [0u8; 512];
-    let mut os = [0u64; 512];
+    let mut ps = [0u8; NODES];
+    let mut os = [0u64; NODES];
     let read = read_lines(text, place, line, &mut ps, &mut os)?;
     let count = read.count;
-    if let Err(refusal) = judge_read(table, &ps, count, productions.len(), owns.len()) {
-        return Err(Misread { refusal, line });
-    }
-    copy_productions(&ps, count, productions);
-    copy_owns(&os, count, owns);
+    judge_read(table, &ps, count, productions.len(), owns.len()).map_err(|refusal| Misread {
+        refusal,
+        line,
+    })?;
+    copy_front(&ps, count, productions);
+    copy_front(&os, count, owns);
     Ok(read)
 }
 
@@ -192,8 +161,6 @@ pub fn read_tree(
 ) -> Result<ReadTree, Misread>
     ensures { ReadTreeSays table.now text.now place line productions.old owns.old result productions.new owns.new }
 {
-    if let Err(refusal) = judge_table(table) {
-        return Err(Misread { refusal, line });
-    }
+    judge_table(table).map_err(|refusal| Misread { refusal, line })?;
     read_judged(table, text, place, line, productions, owns)
 }

@@ -8,7 +8,6 @@ ghost use Rattle.text_tree.specs.Calls.{WriteTreeSays};
 ghost use Rattle.tree.specs.Tree.{nodes_most};
 
 use refusal::Refusal;
-use text_line::wide;
 use tree::judge_tree;
 
 // The kind of a node's line, above its production.
@@ -20,11 +19,12 @@ const LOAD_LINE: usize = 7;
 const NODE_LINE: usize = 21;
 
 // Writes the line of a node, and says where the next one goes.
+#[tactic(auto, using(crate::proofs::Writing::node_shown))]
 pub fn put_node(buffer: &mut [u8], place: usize, production: u8, own: u64) -> usize
     requires { place + 21 ≤ length buffer.old }
     ensures { (result ≡ place + 21) × (buffer.new ≡ sets buffer.old place (text_of (Node production own))) }
 {
-    let head = NODE + wide(production);
+    let head = NODE + u64::from(production);
     text_line::put_line(buffer, place, 4, head, 16, own)
 }
 
@@ -34,10 +34,8 @@ fn put_tree(productions: &[u8], owns: &[u64], buffer: &mut [u8]) -> usize
     ensures { (result ≡ 7 + 21 * length productions.now) × (buffer.new ≡ sets buffer.old 0 (tree_text productions.now owns.now)) }
 {
     let mut place = text_line::put_line(buffer, 0, 2, 6, 4, productions.len() as u64);
-    let mut i: usize = 0;
-    while i < productions.len() {
-        place = put_node(buffer, place, productions[i], owns[i]);
-        i += 1;
+    for (production, own) in productions.iter().zip(owns) {
+        place = put_node(buffer, place, *production, *own);
     }
     place
 }

@@ -13,7 +13,8 @@ use Rattle.text_frame.specs.declared.Rule.TheVariants.{Equation}
 use Rattle.text_frame.specs.declared.Expected.TheVariants.{AtEquation}
 use Rattle.std.proofs.Common.{Ok, Err, rules}
 use Rattle.std.proofs.lemmas.Result.{MatchResult-weaker, err_from_is_err_and}
-use Rattle.text_table.proofs.Taking.{named, passed, no_equation, other_taken, other_words, sound_taken, stopped_taken, equation_words, low_kept, shaped_kept, count_kept}
+use Rattle.text_tree.proofs.Numbers.{named, passed}
+use Rattle.text_table.proofs.Taking.{no_equation, other_taken, other_words, sound_taken, stopped_taken, equation_words, low_kept, shaped_kept, count_kept}
 use Rattle.text_table.proofs.read.take_equation.Goals as goal
 
 pub returns-in_default : goal.returns-in_default

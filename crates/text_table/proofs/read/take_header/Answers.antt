@@ -12,7 +12,8 @@ use Rattle.text_frame.specs.declared.Rule.TheVariants.{Header}
 use Rattle.text_frame.specs.declared.Expected.TheVariants.{AtHeader}
 use Rattle.std.proofs.Common.{Ok, Err, rules}
 use Rattle.std.proofs.lemmas.Result.{MatchResult-weaker, err_from_is_err_and}
-use Rattle.text_table.proofs.Taking.{named, passed, no_header, other_taken, other_words, sound_taken, stopped_taken, header_words}
+use Rattle.text_tree.proofs.Numbers.{named, passed}
+use Rattle.text_table.proofs.Taking.{no_header, other_taken, other_words, sound_taken, stopped_taken, header_words}
 use Rattle.text_table.proofs.read.take_header.Goals as goal
 
 pub returns-in_default : goal.returns-in_default

@@ -12,7 +12,8 @@ use Rattle.text_frame.specs.declared.Rule.TheVariants.{Production}
 use Rattle.text_frame.specs.declared.Expected.TheVariants.{AtProduction}
 use Rattle.std.proofs.Common.{Ok, Err, rules}
 use Rattle.std.proofs.lemmas.Result.{MatchResult-weaker, err_from_is_err_and}
-use Rattle.text_table.proofs.Taking.{named, passed, no_production, other_taken, other_words, sound_taken, stopped_taken, production_words, shaped_now}
+use Rattle.text_tree.proofs.Numbers.{named, passed}
+use Rattle.text_table.proofs.Taking.{no_production, other_taken, other_words, sound_taken, stopped_taken, production_words, shaped_now}
 use Rattle.text_table.proofs.read.take_production.Goals as goal
 
 pub returns-in_default : goal.returns-in_default

@@ -12,7 +12,8 @@ use Rattle.text_frame.specs.declared.Rule.TheVariants.{Symbol}
 use Rattle.text_frame.specs.declared.Expected.TheVariants.{AtSymbol}
 use Rattle.std.proofs.Common.{Ok, Err, rules}
 use Rattle.std.proofs.lemmas.Result.{MatchResult-weaker, err_from_is_err_and}
-use Rattle.text_table.proofs.Taking.{named, passed, no_symbol, other_taken, other_words, sound_taken, stopped_taken, symbol_words}
+use Rattle.text_tree.proofs.Numbers.{named, passed}
+use Rattle.text_table.proofs.Taking.{no_symbol, other_taken, other_words, sound_taken, stopped_taken, symbol_words}
 use Rattle.text_table.proofs.read.take_symbol.Goals as goal
 
 pub returns-in_default : goal.returns-in_default

@@ -15,10 +15,10 @@ returns-in_default-change c =
     let a = c.args in
     let n = c.next_at-step in
     let g = c.in-Change in
-    load_stray a.text.now a.place a.line n.result n.ensures (rw g.is (no_load g.change a.line _ c.in_default-change.not-Load)) _ (rw g.is c.no_node-in_default-change.ensures) a.productions.now a.owns.now a.productions.now a.owns.now
+    load_stray a.text.now a.place a.line n.result n.ensures (rw g.is (no_load g.change a.line _ c.in_default-change.not-Load)) _ c.no_node-in_default-change.ensures a.productions.now a.owns.now a.productions.now a.owns.now
 
 pub returns : goal.returns
 returns c =
     let a = c.args in
     let n = c.next_at-step in
-    rw (load_lines a.text.now a.place a.line n.result n.ensures c.in-Load.count (c.in-Change.is ∙ ap Change c.in-Load.is)) c.read_nodes.ensures
+    rw (load_lines a.text.now a.place a.line n.result n.ensures c.in-Load.count (c.in-Change.is ∙ ap Change c.in-Load.is)) (rw c.from.ensures at c.read_nodes.ensures)

@@ -16,7 +16,7 @@ loop-i-preserved c =
     let a = c.args in
     let n = c.next_at-step in
     let g = c.in-Node in
-    onward_next a.text.now a.count a.place a.line a.productions.now a.owns.now l.productions l.owns l.i l.at l.l l.invariant (omega arith) n.result n.ensures g.production g.own g.is _ _ c.keep_production.ensures c.keep_own.ensures
+    onward_next a.text.now a.count a.place a.line a.productions.now a.owns.now l.productions l.owns l.i l.at l.l l.invariant (omega arith) n.result n.ensures g.production g.own g.is _ _ c.keep.ensures c.keep-in-loop-i.ensures
 
 pub returns : goal.returns
 returns c =
