@@ -1,10 +1,9 @@
 -- One frame taken: what the words become, and what is answered. Assumes nothing.
 use mathlib.Core.Path.{◌≡◌, refl, ap, sym, ◌∙◌}
-use mathlib.Core.Bool.{true, false, true≢false}
+use mathlib.Core.Bool.{true, false}
 use mathlib.Core.List.{List}
 use mathlib.Core.Logic.{◌⊎◌, inl, inr, ⊎_elim}
-use Rattle.std.proofs.Common.{Result, Ok, Err}
-use Rattle.std.specs.Result.{MatchResult, is_ok}
+use Rattle.std.proofs.Common.{Ok, Err}
 use Prim.Native.Nat.{ℕ, zero, suc, ◌+◌, ◌*◌, ◌≤◌, ◌<◌}
 use native.Mathlib.Omega.{arith}
 use types.Run.{OneOf}
@@ -13,7 +12,7 @@ use borrow.Author.Tests.{ne_eqb}
 use lib.Dec.{eqb, lit<, lit≤}
 use lib.ListN.{get_or, set}
 use lib.Seq.{get_or-set_other}
-use Rattle.refusal.specs.Numbers.{number_of, verdict_of}
+use Rattle.refusal.specs.Numbers.{number_of}
 use Rattle.refusal.specs.declared.Refusal.{Refusal}
 use Rattle.refusal.specs.declared.Refusal.TheVariants as why
 use Rattle.table.specs.Words.{symbol_count, production_count, synthesized, inherited, left_of, child_count, child_of, symbol_at, defined}
@@ -33,7 +32,6 @@ use Rattle.text_frame.specs.declared.Rule as rule
 use Rattle.text_frame.specs.declared.Expected.{Expected}
 use Rattle.text_frame.specs.declared.Expected.TheVariants.{AtHeader, AtSymbol, AtProduction, AtEquation, Ended}
 use Rattle.text_frame.specs.Calls.{misread}
-use Rattle.text_frame.specs.declared.Misread.{Misread}
 use Rattle.refusal.proofs.Distinct.{number_low}
 use Rattle.text_tree.proofs.Numbers.{by_number}
 use Rattle.text_frame.proofs.Exactly.{rule_type_lem, change_type_lem}

@@ -22,7 +22,8 @@ use Rattle.climb.proofs.Lists.{either, and_is, or_false_is}
 use Rattle.update.specs.Refusals.{missing, parts_refusal}
 use Rattle.update_judge.specs.Inner.Cuts.{cuts_from, named_cuts, meeting, leaving, coming, judge_cuts, shifted, Small, Outlined, none, more, Aimed}
 use Rattle.update_judge.proofs.Parts.{part_fits}
-use Rattle.update_judge.proofs.Walks.{some_none, none_at}
+use Rattle.std.specs.List.{list_any}
+use Rattle.update_judge.proofs.Walks.{places_front, some_any, some_none, none_at}
 
 -- ---- parts that are handed in
 
@@ -86,6 +87,11 @@ outlined_missing nodes o = some_absent nodes o
 
 pub bare_missing : (nodes : ℕ) (qs : List Point) → missing nodes (bare_row qs) ≡ some_point (absent nodes) qs
 bare_missing nodes qs = outlined_missing nodes (bare_outlined qs)
+
+-- the points that a call names, as code looks at them
+pub missing_named : (nodes : ℕ) (points : Places) → points.count ≤ length points.points → missing nodes (bare_row (named_points points)) ≡ list_any (absent nodes) (take points.count points.points)
+missing_named nodes points h =
+    bare_missing nodes (named_points points) ∙ ap (some_point (absent nodes)) (places_front points.count points.points h) ∙ some_any (absent nodes) (take points.count points.points)
 
 pub bare_length : (qs : List Point) → length (bare_row qs) ≡ length qs
 bare_length qs = outlined_length (bare_outlined qs)

@@ -17,7 +17,7 @@ use Rattle.tree.specs.Tree.{judge_nodes}
 use Rattle.tree.specs.Points.{Part, Row, nodes_row, points_row, leaving_row, coming_row, overlaps}
 use Rattle.tree.proofs.Points.{all_rows}
 use Rattle.tree.specs.Handed.{named_points, announced, cut_row, bare_row, evenly, handed_row}
-use Rattle.climb.proofs.Lists.{either, or_false_is, le_or_lt}
+use Rattle.climb.proofs.Lists.{either, or_false_is}
 use Rattle.update_place.specs.Inner.Splicing.{Splicing}
 use Rattle.update.specs.declared.Record.{Record}
 use Rattle.update.specs.Records.{is_open_kind}
@@ -29,7 +29,7 @@ use Rattle.update.proofs.Refusing.{asked_right}
 use Rattle.update_judge.specs.Inner.Cuts.{named_cuts, meeting, leaving, coming, judge_cuts, shifted, Aimed}
 use Rattle.update_judge.specs.Order.{named_order, fit_order}
 use Rattle.update_judge.proofs.Orders.{row_meets, row_passes, row_parts, fits}
-use Rattle.update_judge.proofs.Outlines.{Even, even, even_back, uneven, handed_even, handed_outlined, outlined_length, outlined_missing, outlined_meets, outlined_leaving, outlined_coming, outlined_shifted, announced_coming, even_judge, uneven_seven, bare_length, bare_missing, cuts_are}
+use Rattle.update_judge.proofs.Outlines.{Even, even_back, uneven, handed_even, handed_outlined, outlined_length, outlined_missing, outlined_meets, outlined_leaving, outlined_coming, outlined_shifted, announced_coming, even_judge, uneven_seven, bare_length, bare_missing, cuts_are}
 use Rattle.update_judge.proofs.Walks.{places_length}
 use Rattle.refusal.proofs.Orders.{order_gives, past, stopped}
 
@@ -134,13 +134,6 @@ module _ (qs : List Point) (new new_owns : List ℕ) where
   named_same r = rw (counted_same, missing_same r.nodes)
 
 -- ---- 23, 8 and the parts'
-
--- 8 in code: what stays, and the room that it leaves
-pub passes_room : (n l k a b : ℕ) → l ≤ n → n ≤ 512 → a ≡ n - l → b ≡ min 513 k → ltb (512 - a) b ≡ ltb 512 (n - l + k)
-passes_room n l k a b h j e f = ⊎_elim
-    (λ (c : n - l + k ≤ 512). le-ltb (512 - a) b (omega arith) ∙ sym (le-ltb 512 (n - l + k) c))
-    (λ (c : 512 < n - l + k). lt-ltb (512 - a) b (omega arith) ∙ sym (lt-ltb 512 (n - l + k) c))
-    (le_or_lt (n - l + k) 512)
 
 module _ (t ns : List ℕ) (points : Places) (cs : Cuts) (new new_owns : List ℕ) (a : Aimed t ns points cs) where
   abbrev ps : List Part

@@ -1,7 +1,11 @@
 -- Tests that code makes one limit at a time. Assumes nothing.
-use mathlib.Core.Path.{◌≡◌, sym, ap, ◌∙◌}
-use mathlib.Core.Bool.{true, false, ◌&&◌, ◌||◌}
-use mathlib.Core.Logic.{⊎_elim}
+<<<<<<< HEAD
+use mathlib.Core.Path.{◌≡◌, ap, ◌∙◌}
+use mathlib.Core.Bool.{◌&&◌, ◌||◌}
+=======
+use mathlib.Core.Path.{◌≡◌, ap, ◌∙◌}
+use mathlib.Core.Bool.{◌&&◌, ◌||◌}
+>>>>>>> c25cdf17bb8ba1bbd54452432feb682518352d6d
 use native.Mathlib.Omega.{arith}
 use lib.Dec.{eqb}
 use lib.ListN.{length}
@@ -9,18 +13,10 @@ use lib.Seq.{take_all}
 use Rattle.std.specs.List.{list_any}
 use Rattle.tree.specs.Points.{some_point}
 use Rattle.tree.specs.Handed.{places_from}
-use Rattle.climb.proofs.Lists.{either}
 use Rattle.update.specs.declared.Record.{Record}
 use Rattle.update.specs.Records.{is_open_kind, points_of, large, astray, beyond}
-use Rattle.update.specs.Memories.{Memory}
-use Rattle.update.specs.Refusals.{short}
-use Rattle.update.specs.Within.{Roomy}
-use Rattle.update.proofs.Within.{short_means}
 use Rattle.update_judge.specs.Inner.Limits.{over}
 use Rattle.update_judge.proofs.Walks.{places_front, some_any}
-
-pub is_short : (m : Memory) → (Roomy m → ⊥) → true ≡ short m
-is_short m h = ⊎_elim (λ (e : short m ≡ true). sym e) (λ (e : short m ≡ false). absurd (h ((short_means m).0 e))) (either (short m))
 
 -- the limits of the record's numbers, then the order of its points
 pub beyond_is : (r : Record) → length r.points ≡ 8 → beyond r ≡ (over r || is_open_kind r.«open» && (eqb r.count 0 || astray r.nodes 0 (points_of r)))

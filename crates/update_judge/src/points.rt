@@ -1,5 +1,6 @@
 // The points of a replacement: what a call is refused by while they are looked at, and the cuts that they make in the held tree.
-ghost use Rattle.std.specs.Prelude.{◌≡◌, true, false, [], ◌∷◌, ◌+◌, ◌-◌, ◌<◌, ◌≤◌, min, ltb, length, get_or, take, drop};
+ghost use Rattle.std.specs.Prelude.{◌≡◌, true, false, [], ◌∷◌, ◌+◌, ◌-◌, ◌<◌, ◌≤◌, min, leb, ltb, length, get_or, take, drop};
+ghost use Rattle.std.specs.List.{list_any};
 ghost use Rattle.refusal.specs.Numbers.{verdict_of};
 ghost use Rattle.table.specs.Limits.{Limits};
 ghost use Rattle.table.specs.Words.{left_of};
@@ -14,22 +15,18 @@ ghost use Rattle.refusal.specs.Orders.{refusal_by};
 use crate::trees::part_of;
 use refusal::Refusal;
 use table::left_of;
-use tree::{Cut, Cuts, Places, Point, index, judge_nodes};
+use tree::{Cut, Cuts, Places, Point, judge_nodes};
 use update::{Record, is_open};
 
 // 10, 22.
+#[tactic(auto, using(crate::proofs::Rows::asked_open, crate::proofs::Rows::asked_none, crate::proofs::Rows::asked_many, crate::proofs::Rows::asked_some))]
 pub fn judge_asked(record: Record, points: Places) -> Result<(), Refusal>
     ensures { verdict_of result ≡ refusal_by (asked_order «record» (bare_row (named_points points))) }
 {
-    let open = record.open;
-    if is_open(open) {
+    if is_open(record.open) {
         return Err(Refusal::Busy);
     }
-    let count = points.count;
-    if count == 0 {
-        return Err(Refusal::Points);
-    }
-    if Record::POINTS < count {
+    if points.count == 0 || Record::POINTS < points.count {
         return Err(Refusal::Points);
     }
     Ok(())
@@ -38,22 +35,15 @@ pub fn judge_asked(record: Record, points: Places) -> Result<(), Refusal>
 // Whether a point isn't below the node count.
 fn is_missing(points: Places, nodes: usize) -> bool
     requires { points.count ≤ 8 }
-    ensures { result ≡ missing nodes (bare_row (named_points points)) }
+    ensures { result ≡ list_any (λ point. leb nodes point.node) (take points.count points.points) }
 {
-    let count = points.count;
-    let places = points.points;
-    let mut i = 0;
-    while i < count {
-        let point = places[i];
-        if nodes <= point.node {
-            return true;
-        }
-        i += 1;
-    }
-    false
+    points.points[..points.count]
+        .iter()
+        .any(|point| nodes <= point.node)
 }
 
 // What a replacement is refused by where a tree that is held is sound, before its subtrees are counted: 10, 22, 16, 9.
+#[tactic(auto, using(refusal::proofs::Distinct::handed_number, crate::proofs::Outlines::missing_named, crate::proofs::Rows::asked_few, crate::proofs::Rows::named_absent, crate::proofs::Rows::named_missing, crate::proofs::Rows::named_sound, crate::proofs::Rows::named_stopped))]
 pub fn judge_named(record: Record, points: Places) -> Result<(), Refusal>
     ensures { verdict_of result ≡ refusal_by (named_order «record» (bare_row (named_points points))) }
 {
@@ -71,14 +61,13 @@ pub fn judge_named(record: Record, points: Places) -> Result<(), Refusal>
 fn cut_of(table: &[u64; 2657], tree: &[u8], point: Point) -> Cut
     requires limits { Limits table.now }
     requires numbered { Numbered table.now tree.now }
-    requires node_in_bounds { (point.node < length tree.now) × (length tree.now ≤ nodes_most) }
+    requires node_in_bounds { point.node < length tree.now }
+    requires tree_bound { length tree.now ≤ nodes_most }
     ensures { result ≡ cut_of table.now tree.now point }
 {
-    let node = point.node;
-    let old = part_of(table, tree, node);
     Cut {
-        node: node,
-        old: old,
+        node: point.node,
+        old: part_of(table, tree, point.node),
         count: point.count,
     }
 }
@@ -90,60 +79,46 @@ pub fn cuts_of(table: &[u64; 2657], tree: &[u8], points: Places) -> Cuts
     requires tree_len_bound { (length tree.now ≤ nodes_most) × (points.count ≤ 8) × (missing (length tree.now) (bare_row (named_points points)) ≡ false) }
     ensures { Cutting table.now tree.now (named_points points) result }
 {
-    let count = points.count;
-    let places = points.points;
     let none = Cut {
         node: 0,
         old: 0,
         count: 0,
     };
     let mut cuts = [none; 8];
-    let mut i = 0;
-    while i < count {
-        let point = places[i];
-        let cut = cut_of(table, tree, point);
-        cuts[i] = cut;
-        i += 1;
+    for (i, point) in points.points[..points.count].iter().enumerate() {
+        cuts[i] = cut_of(table, tree, *point);
     }
     Cuts {
-        count: count,
-        cuts: cuts,
+        count: points.count,
+        cuts,
     }
 }
 
 // 23: whether a point lies before another that is named before it, or inside its old part.
+#[tactic(auto, using(crate::proofs::Walks::meeting_at, crate::proofs::Walks::meeting_end, update_place::proofs::Laying::cuts_front))]
 fn is_meeting(cuts: Cuts) -> bool
     requires { Small nodes_most cuts }
     ensures { result ≡ meeting 0 (named_cuts cuts) }
 {
-    let count = cuts.count;
-    let list = cuts.cuts;
     let mut from = 0;
-    let mut i = 0;
-    while i < count {
-        let cut = list[i];
+    for cut in &cuts.cuts[..cuts.count] {
         if cut.node < from {
             return true;
         }
         from = cut.node + cut.old;
-        i += 1;
     }
     false
 }
 
 // How many nodes make way.
+#[tactic(auto, using(crate::proofs::Walks::leaving_at, crate::proofs::Walks::leaving_end, update_place::proofs::Laying::cuts_front))]
 fn count_leaving(cuts: Cuts) -> usize
     requires { Small nodes_most cuts }
     ensures { result ≡ leaving (named_cuts cuts) }
 {
-    let count = cuts.count;
-    let list = cuts.cuts;
     let mut sum = 0;
-    let mut i = 0;
-    while i < count {
-        let cut = list[i];
+    for cut in &cuts.cuts[..cuts.count] {
         sum += cut.old;
-        i += 1;
     }
     sum
 }
@@ -152,21 +127,17 @@ fn count_leaving(cuts: Cuts) -> usize
 const TOO_MANY: usize = Record::NODES + 1;
 
 // How many nodes come. Above 512 it says 513, since a caller may announce more than any number holds.
+#[tactic(auto, using(crate::proofs::Walks::coming_at, crate::proofs::Walks::coming_end, update_place::proofs::Laying::cuts_front))]
 fn count_coming(cuts: Cuts) -> usize
     requires { Small nodes_most cuts }
     ensures { result ≡ min 513 (coming (named_cuts cuts)) }
 {
-    let count = cuts.count;
-    let list = cuts.cuts;
     let mut sum = 0;
-    let mut i = 0;
-    while i < count {
-        let cut = list[i];
+    for cut in &cuts.cuts[..cuts.count] {
         if Record::NODES - sum < cut.count {
             return TOO_MANY;
         }
         sum += cut.count;
-        i += 1;
     }
     sum
 }
@@ -191,17 +162,16 @@ fn judge_cut(
 ) -> Result<(), Refusal>
     requires limits { Limits table.now }
     requires numbered { Numbered table.now tree.now }
-    requires node_in_bounds { (cut.node < length tree.now) × (at + cut.count ≤ length new.now) }
+    requires node_in_bounds { cut.node < length tree.now }
+    requires part_in_bounds { at + cut.count ≤ length new.now }
     ensures { verdict_of result ≡ judge_nodes table.now (take cut.count (drop at new.now)) (left_of table.now (get_or tree.now cut.node 0) ∷ []) }
 {
-    let node = cut.node;
-    let count = cut.count;
-    let end = at + count;
-    let part = &new[at..end];
-    judge_nodes(table, part, left_of(table, index(tree[node])))
+    let symbol = left_of(table, usize::from(tree[cut.node]));
+    judge_nodes(table, &new[at..at + cut.count], symbol)
 }
 
 // The parts in their order.
+#[tactic(auto, using(refusal::proofs::Distinct::handed_number, table::proofs::Steps::or_stops, crate::proofs::Walks::judge_cuts_at, crate::proofs::Walks::judge_cuts_end, crate::proofs::Walks::coming_at, update_place::proofs::Laying::cuts_front))]
 fn judge_parts(table: &[u64; 2657], tree: &[u8], cuts: Cuts, new: &[u8]) -> Result<(), Refusal>
     requires limits { Limits table.now }
     requires numbered { Numbered table.now tree.now }
@@ -209,21 +179,17 @@ fn judge_parts(table: &[u64; 2657], tree: &[u8], cuts: Cuts, new: &[u8]) -> Resu
     requires cuts_in_bounds { coming (named_cuts cuts) ≤ length new.now }
     ensures { verdict_of result ≡ judge_cuts table.now tree.now (named_cuts cuts) new.now }
 {
-    let count = cuts.count;
-    let list = cuts.cuts;
     let mut at = 0;
-    let mut i = 0;
-    while i < count {
-        let cut = list[i];
-        judge_cut(table, tree, cut, new, at)?;
+    for cut in &cuts.cuts[..cuts.count] {
+        judge_cut(table, tree, *cut, new, at)?;
         at += cut.count;
-        i += 1;
     }
     Ok(())
 }
 
 // What a replacement is refused by where its points are nodes of a sound tree: 23, 8, the parts' 6/7. Where nodes or own sets are missing or left over it is 7 as
 // the first part's number.
+#[tactic(auto, using(crate::proofs::Rows::cuts_meet, crate::proofs::Rows::cuts_pass, crate::proofs::Rows::cuts_nodes, crate::proofs::Rows::cuts_owns, crate::proofs::Rows::cuts_room, crate::proofs::Rows::cuts_parts))]
 pub fn judge_row(
     table: &[u64; 2657],
     tree: &[u8],
@@ -242,10 +208,7 @@ pub fn judge_row(
         return Err(Refusal::Size);
     }
     let count = count_coming(cuts);
-    if new.len() != count {
-        return Err(Refusal::Shape);
-    }
-    if new_owns.len() != count {
+    if new.len() != count || new_owns.len() != count {
         return Err(Refusal::Shape);
     }
     judge_parts(table, tree, cuts, new)

@@ -7,9 +7,9 @@ ghost use Rattle.wire.specs.Instances.{declared};
 ghost use Rattle.tree.specs.Tree.{nodes_most};
 
 use table::{child_count, has_set, left_of};
-use tree::index;
 
 // Whether an instance is declared in the tree of the first `nodes` nodes.
+#[tactic(auto, using(update_place::proofs::Slots::node_of_table, crate::proofs::Parts::symbol_below), unfolding(wire::specs::Instances::declared))]
 pub fn is_declared(table: &[u64; 2657], held: &[u8], nodes: usize, instance: usize) -> bool
     requires limits { Limits table.now }
     requires numbered { Numbered table.now (take nodes held.now) }
@@ -17,27 +17,24 @@ pub fn is_declared(table: &[u64; 2657], held: &[u8], nodes: usize, instance: usi
     ensures { result ≡ declared table.now (take nodes held.now) instance }
 {
     let node = instance / 8;
-    if nodes <= node {
-        return false;
-    }
-    has_set(table, left_of(table, index(held[node])), instance % 8)
+    node < nodes && has_set(table, left_of(table, usize::from(held[node])), instance % 8)
 }
 
 // How many nodes the subtree at `point` has: from node to node, with the count of subtrees still to come.
+#[tactic(auto, using(crate::proofs::Parts::rest_all, crate::proofs::Parts::size_at, crate::proofs::Parts::size_done, crate::proofs::Parts::size_end, crate::proofs::Parts::number_at, crate::proofs::Parts::arity_at), unfolding(tree::specs::Replace::part))]
 pub fn part_of(table: &[u64; 2657], tree: &[u8], point: usize) -> usize
     requires limits { Limits table.now }
     requires numbered { Numbered table.now tree.now }
     requires point_in_bounds { (point < length tree.now) × (length tree.now ≤ nodes_most) }
     ensures { result ≡ part table.now tree.now point }
 {
-    let mut at = point;
-    let mut left: usize = 1;
-    while at < tree.len() {
+    let below = &tree[point..];
+    let mut left = 1;
+    for (count, production) in below.iter().enumerate() {
         if left == 0 {
-            return at - point;
+            return count;
         }
-        left = left - 1 + child_count(table, index(tree[at]));
-        at += 1;
+        left = left - 1 + child_count(table, usize::from(*production));
     }
-    at - point
+    below.len()
 }

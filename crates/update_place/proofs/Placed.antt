@@ -7,7 +7,7 @@ use native.Mathlib.Omega.{arith}
 use lib.ListN.{length, take, drop, replicate, length-replicate, drop_of_length-le}
 use lib.Seq.{paste, length-take-le, take_all, take-nil}
 use Rattle.update.specs.Memories.{filled_with}
-pub use Rattle.update.proofs.Filled.{get_d_zeros, get_d_filled, length_filled, take_filled, take_filled_with, length_exchanged}
+pub use Rattle.update.proofs.Filled.{get_d_zeros, get_d_filled, length_filled, take_filled, take_filled_with}
 
 module _ {A : Type 0} where
   pub drop_take : (i j : ℕ) (l : List A) → drop i (take (i + j) l) ≡ take j (drop i l)
