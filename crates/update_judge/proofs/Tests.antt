@@ -1,11 +1,6 @@
 -- Tests that code makes one limit at a time. Assumes nothing.
-<<<<<<< HEAD
 use mathlib.Core.Path.{◌≡◌, ap, ◌∙◌}
 use mathlib.Core.Bool.{◌&&◌, ◌||◌}
-=======
-use mathlib.Core.Path.{◌≡◌, ap, ◌∙◌}
-use mathlib.Core.Bool.{◌&&◌, ◌||◌}
->>>>>>> c25cdf17bb8ba1bbd54452432feb682518352d6d
 use native.Mathlib.Omega.{arith}
 use lib.Dec.{eqb}
 use lib.ListN.{length}
