@@ -1,6 +1,5 @@
 -- What refuses is handed on; otherwise the arrays are made of the held tree. Assumes nothing.
 use Rattle.std.proofs.Common.{refl, arith}
-use Rattle.refusal.proofs.Distinct.{handed}
 use Rattle.update.specs.Memories.{lent}
 use Rattle.engine.proofs.Views.{few, tree_long, holds_tree, ready}
 use Rattle.engine.proofs.arranging.arranged.Goals as goal
