@@ -94,25 +94,20 @@ fn production(text: &[u8], place: usize, n: usize, line: u32) -> Frame
     })
 }
 
-// Where a set of an equation stands.
-fn argument(text: &[u8], place: usize) -> Argument
-    requires { place + 4 < 2 ^ 64 }
-    ensures { (result.position ≡ num_at 2 text.now place) × (result.index ≡ num_at 2 text.now (place + 2)) }
-{
-    Argument {
-        position: byte(text, place),
-        index: byte(text, place + 2),
-    }
-}
-
 fn equation(text: &[u8], place: usize) -> Frame
     requires { place + 28 < 2 ^ 64 }
     ensures { result ≡ kind.Rule (Equation (num_at 2 text.now (place + 2)) (record { position = num_at 2 text.now (place + 4); index = num_at 2 text.now (place + 6) }) (record { position = num_at 2 text.now (place + 8); index = num_at 2 text.now (place + 10) }) (num_at 16 text.now (place + 12))) }
 {
     Frame::Rule(Rule::Equation {
         op: byte(text, place + 2),
-        a: argument(text, place + 4),
-        b: argument(text, place + 8),
+        a: Argument {
+            position: byte(text, place + 4),
+            index: byte(text, place + 6),
+        },
+        b: Argument {
+            position: byte(text, place + 8),
+            index: byte(text, place + 10),
+        },
         c: text_line::number(text, place + 12, 16),
     })
 }

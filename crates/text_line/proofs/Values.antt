@@ -56,9 +56,9 @@ unfolding num_at
 num_small zero s place = omega arith
 num_small (suc k) s place = rw pow-suc (omega (arith, num_small k s place, value_small (get_or s (place + k) 0)))
 
-pub num_below : (k m : ℕ) (s : List ℕ) (place : ℕ) → k ≤ m → num_at k s place < 16 ^ m
-num_below k m s place h = omega (arith, num_small k s place, pow-le-pow_right {n = 16} (lit< tt) h)
-
 -- fifteen digits leave room for one more
-pub num_room : (k : ℕ) (s : List ℕ) (place : ℕ) → k < 16 → num_at k s place < 2 ^ 60
-num_room k s place h = num_below k 15 s place (omega arith)
+pub room_left : (v k : ℕ) → k < 16 → v < 16 ^ k → v < 2 ^ 60
+room_left v k h l = let p : k ≤ 15 = omega arith in omega (arith, l, pow-le-pow_right {n = 16} (lit< tt) p)
+
+pub one_more : (v k d : ℕ) → d < 16 → v < 16 ^ k → v * 16 + d < 16 ^ (k + 1)
+one_more v k d h l = rw (add-one, pow-suc) (omega arith)

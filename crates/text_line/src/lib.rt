@@ -1,7 +1,7 @@
 // Lines of hexadecimal text: digits, lines, and numbers in and out.
 #![tactic(auto)]
 
-ghost use Rattle.std.specs.Prelude.{◌≡◌, ◌∷◌, [], ◌+◌, ◌<◌, ◌≤◌, ◌^◌, length, get_or};
+ghost use Rattle.std.specs.Prelude.{List, ℕ, ◌≡◌, ◌∷◌, [], ◌+◌, ◌<◌, ◌≤◌, ◌^◌, length, get_or};
 ghost use Rattle.std.proofs.lemmas.List.Edits.{sets};
 ghost use Rattle.text_line.specs.Hex.{is_hex, digit_value, digits_at, num_at, hex_of, hex_digits};
 ghost use Rattle.text_line.specs.Text.{line_at, field, line_text};
@@ -85,18 +85,30 @@ pub fn digit_value(b: u8) -> u64
     }
 }
 
-// The number that so many digits stand for, big-endian.
-#[tactic(auto, using(crate::proofs::Values::num_more, crate::proofs::Values::num_room, crate::proofs::Values::value_small), unfolding(crate::specs::Hex::num_at))]
+// The number of so many digits, big-endian, by which byte is the i-th of them.
+fn number_of<F: Fn(usize) -> u8>(width: usize, byte: F) -> u64
+    requires few { width ≤ 16 }
+    requires told { (i : ℕ) → i < width → F.pre byte i }
+    ensures { (s : List ℕ) (place : ℕ) → ((i b : ℕ) → i < width → F.post byte i b → b ≡ get_or s (place + i) 0) → result ≡ num_at width s place }
+{
+    let mut v = 0;
+    for i in 0..width {
+        let d = digit_value(byte(i));
+        v = v * 16 + d;
+    }
+    v
+}
+
+// The number that so many digits stand for; past its end a text reads 0. Within the text no byte is asked whether it is there, which spares time.
 pub fn number(text: &[u8], place: usize, width: usize) -> u64
     requires { (place + width < 2 ^ 64) × (width ≤ 16) }
     ensures { result ≡ num_at width text.now place }
 {
-    let mut v = 0;
-    for i in 0..width {
-        let d = digit_value(byte_at(text, place + i));
-        v = v * 16 + d;
+    if place + width <= text.len() {
+        number_of(width, |i| text[place + i])
+    } else {
+        number_of(width, |i| byte_at(text, place + i))
     }
-    v
 }
 
 // The digit of a number below 16.
