@@ -7,14 +7,10 @@ use mathlib.Core.List.{List}
 use mathlib.Core.Logic.{◌⊎◌, inl, inr, ⊎_elim, dite}
 use lib.ListN.{get_or, set, length-set}
 use lib.Seq.{get_or-set_same, get_or-set_other}
-use Rattle.circles_find.specs.Inner.Search.{Next, value_in, arg_of, Arg, Marked}
+use Rattle.circles_find.specs.Inner.Search.{Next, value_in, arg_of, Arg}
 use Rattle.circles_find.specs.Inner.Labels.{Kin}
-use Rattle.circles_find.proofs.Chains.{Upto, upto_start, upto_more}
-use Rattle.circles_order.specs.Inner.Turns.{Free, Advanced, In, Bits, Put, Cursor, Sure, Cursors, Moved, SureAt, Covered}
-
--- the arguments of what has a label have one
-pub args_marked : {n : ℕ} {a b label : List ℕ} → Covered n a b label → (x : ℕ) → x < n → Marked n label x → (get_or a x 0 < n → Marked n label (get_or a x 0)) × (get_or b x 0 < n → Marked n label (get_or b x 0))
-args_marked {a} {b} C x xl m = ((λ h. C.reads x (get_or a x 0) (xl, h, C.stated x xl m, inl refl)), (λ h. C.reads x (get_or b x 0) (xl, h, C.stated x xl m, inr refl)))
+use Rattle.circles_find.proofs.Chains.{Upto, upto_more}
+use Rattle.circles_order.specs.Inner.Turns.{Free, Advanced, In, Bits, Put, Cursor, Sure, Cursors, Moved, SureAt}
 
 module _ (n : ℕ) (a b label taken after : List ℕ) (l x : ℕ) where
   pub record Going (e : ℕ) : Type 0 where
@@ -22,25 +18,11 @@ module _ (n : ℕ) (a b label taken after : List ℕ) (l x : ℕ) where
     pub past : (z : ℕ) → x ≤ z → z < e → z < n → get_or label z 0 ≡ l → Free n a b label taken l z
     pub at : e < n → get_or label e 0 ≡ l
 
-  pub next_member : Kin n label after → l < n → (e : ℕ) → Going e → e < n → Next (value_in label) n l (e + 1) (get_or after e 0)
-  next_member A ll e g el = subst (λ (u : ℕ). Next (value_in label) n u (e + 1) (get_or after e 0)) (g.at el) (A.next e el (omega (arith, g.at el)))
-
-  pub going_on : Kin n label after → l < n → (e : ℕ) → Going e → e < n → Free n a b label taken l e → Going (get_or after e 0)
-  going_on A ll e g el f =
-      let t : Next (value_in label) n l (e + 1) (get_or after e 0) = next_member A ll e g el in
-      record {
-        from = omega (arith, t.from, g.from);
-        past = λ z h₁ h₂ h₃ h₄. dite (ℕ_discrete z e)
-            (λ c. subst (λ (u : ℕ). Free n a b label taken l u) (sym c) f)
-            (λ c. dite (dec_lt z e) (λ d. g.past z h₁ d h₃ h₄) (λ d. absurd (t.skip z (omega (arith, c, d)) h₂ h₃ h₄)));
-        at = t.hit;
-      }
-
--- ---- what a move does
-
 -- the member y of the circle l has the next one behind it
 pub member_next : {n : ℕ} {label after : List ℕ} {l y y' : ℕ} → Kin n label after → l < n → y < n → get_or label y 0 ≡ l → y' ≡ get_or after y 0 → Next (value_in label) n l (y + 1) y'
 member_next {n} {label} {y} K ll yl e q = subst₂ (λ u v. Next (value_in label) n u (y + 1) v) e (sym q) (K.next y yl (omega (arith, e)))
+
+-- ---- what a move does
 
 module _ {n : ℕ} (nl : n ≤ 4096) {a b label taken : List ℕ} where
   pub moved_none : {cur ready : List ℕ} → Cursors n a b label taken cur → Bits ready → Moved n a b label taken cur ready cur ready
@@ -152,14 +134,6 @@ passing_more {n} {a} {b} {label} {taken} {cur'} e' K p m s t = upto_more (λ i. 
 -- along l's chain of members: what reads the member is sure
 abbrev pub Walked : ℕ → List ℕ → List ℕ → List ℕ → List ℕ → List ℕ → ℕ → ℕ → Type 0
 Walked n a b label taken cur l = Upto (value_in label) n l (λ v. (w : ℕ) → Arg n a b w v → SureAt n a b label taken cur w)
-
--- a circle's chain starts at its label
-pub walked_start : {n : ℕ} {label after : List ℕ} (a b taken cur : List ℕ) (l : ℕ) → l < n → get_or label l 0 ≡ l → Kin n label after → Walked n a b label taken cur l l
-walked_start {n} {label} a b taken cur l ll own K = upto_start (λ v. (w : ℕ) → Arg n a b w v → SureAt n a b label taken cur w) (record {
-  from = omega arith;
-  hit = λ _. own;
-  skip = λ v _ h₁ h₂ h₃. omega (arith, K.least v h₂ (omega (arith, h₃, ll)), h₃, h₁);
-})
 
 pub walked_more : {n : ℕ} {a b label after taken cur ready cur' ready' : List ℕ} {l y : ℕ} (y' : ℕ) → Kin n label after → Walked n a b label taken cur l y → Moved n a b label taken cur ready cur' ready' → ((w : ℕ) → Arg n a b w y → SureAt n a b label taken cur' w) → Next (value_in label) n l (y + 1) y' → Walked n a b label taken cur' l y'
 walked_more {n} {a} {b} {label} {taken} {cur'} y' K k m s t = upto_more (λ v. (w : ℕ) → Arg n a b w v → SureAt n a b label taken cur' w) y' k (λ v _ p w h. sure_kept K m w h.0 (p w h)) s t

@@ -8,19 +8,7 @@ use Rattle.circles_find.proofs.search.mark_readers.Goals as goal
 pub loop-head-init : goal.loop-head-init
 loop-head-init c =
     let r = c.requires.n_le_slots_most in
-    (rw c.from.ensures (started c.args.queue.now r.3 r.4 r.2), record { all = λ i l. absurd (omega arith) }, omega arith)
-
-pub offset_bounds-queue-head : goal.offset_bounds-queue-head
-offset_bounds-queue-head c = omega (arith, c.loop-head-test.true, front_le c.loop-head.invariant.0, length-set c.args.mark.now c.args.s.x c.args.s.x)
-
-pub bounds-queue-head : goal.bounds-queue-head
-bounds-queue-head c = omega (arith, c.loop-head-test.true, front_le c.loop-head.invariant.0, c.loop-head.invariant.0.lenq)
-
-pub overflow_add-head : goal.overflow_add-head
-overflow_add-head c = omega (arith, c.loop-head-test.true, front_le c.loop-head.invariant.0, length-set c.args.mark.now c.args.s.x c.args.s.x)
-
-pub loop-head-smaller : goal.loop-head-smaller
-loop-head-smaller c = omega (arith, c.loop-head-test.true, front_le c.loop-head.invariant.0, length-set c.args.mark.now c.args.s.x c.args.s.x)
+    (rw c.from.ensures (started c.args.queue.now r.3 r.4 r.2), record { all = λ i l. absurd (omega arith) }, omega arith, omega (arith, r.2.small))
 
 pub loop-head-preserved : goal.loop-head-preserved
 loop-head-preserved c =
@@ -35,6 +23,7 @@ loop-head-preserved c =
       swept.0,
       done_more v (swept.1.same l.head c.loop-head-test.true ∙ sym e) (λ z h. w.all z h.0 h.1) (done_kept l.invariant.2 swept.1 l.invariant.1),
       omega (arith, swept.1.longer, c.loop-head-test.true),
+      omega (arith, front_le swept.0, length-set c.args.mark.now c.args.s.x c.args.s.x),
     )
 
 pub returns : goal.returns

@@ -9,6 +9,7 @@ invariant-loop-head l =
     Front l.g.n (Back (Arg l.g.n l.g.a.now l.g.b.now)) l.s.okay.now l.s.k l.s.x (set l.fn.mark l.s.x l.s.x) l.mark l.queue l.tail
     × Done (Back (Arg l.g.n l.g.a.now l.g.b.now)) l.s.okay.now l.s.k l.s.x l.mark l.queue l.head
     × (l.head ≤ l.tail)
+    × (l.tail ≤ length l.fn.mark)
 
 abbrev pub decreases-loop-head : goal.decreases-loop-head
 decreases-loop-head l = length l.fn.mark - l.head

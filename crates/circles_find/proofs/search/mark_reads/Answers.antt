@@ -23,13 +23,7 @@ module _ {n : ℕ} (a b : List ℕ) {okay : List ℕ} {k x : ℕ} {m₀ m q : Li
 pub loop-head-init : goal.loop-head-init
 loop-head-init c =
     let r = c.requires.n_le_slots_most in
-    (rw c.from.ensures (started c.args.queue.now r.3 r.4 r.2), record { all = λ i l. absurd (omega arith) }, omega arith)
-
-pub offset_bounds-queue-head : goal.offset_bounds-queue-head
-offset_bounds-queue-head c = omega (arith, c.loop-head-test.true, front_le c.loop-head.invariant.0, length-set c.args.mark.now c.args.s.x c.args.s.x)
-
-pub bounds-queue-head : goal.bounds-queue-head
-bounds-queue-head c = omega (arith, c.loop-head-test.true, front_le c.loop-head.invariant.0, c.loop-head.invariant.0.lenq)
+    (rw c.from.ensures (started c.args.queue.now r.3 r.4 r.2), record { all = λ i l. absurd (omega arith) }, omega arith, omega (arith, r.2.small))
 
 pub look-tail-requires-in-loop-head : goal.look-tail-requires-in-loop-head
 look-tail-requires-in-loop-head c =
@@ -38,9 +32,6 @@ look-tail-requires-in-loop-head c =
     let f = c.loop-head.invariant.0 in
     let w = entry g.a.now g.b.now f p.stated.0 p.stated.1 c.loop-head-test.true c.from-v.ensures in
     (p.n_le_slots_most.0, p.n_le_slots_most.1, front_room (one_look g.a.now g.b.now f w (inl refl) c.look-tail.ensures).front)
-
-pub loop-head-smaller : goal.loop-head-smaller
-loop-head-smaller c = omega (arith, c.loop-head-test.true, front_le c.loop-head.invariant.0, length-set c.args.mark.now c.args.s.x c.args.s.x)
 
 pub loop-head-preserved : goal.loop-head-preserved
 loop-head-preserved c =
@@ -61,6 +52,7 @@ loop-head-preserved c =
           h.0.3)
           (done_kept l.invariant.2 both l.invariant.1),
       omega (arith, both.longer, c.loop-head-test.true),
+      omega (arith, front_le second.front, length-set c.args.mark.now c.args.s.x c.args.s.x),
     )
 
 pub returns : goal.returns

@@ -1,17 +1,9 @@
 -- One touch, and on to the next place of the chain. Assumes nothing.
-use Rattle.std.proofs.Common.{◌/◌, arith}
-use Rattle.circles_find.proofs.Chains.{upto_start, chain_first, chain_next, arg_of_lem, at_readers}
+use Rattle.std.proofs.Common.{arith}
+use Rattle.circles_find.proofs.Chains.{chain_next, arg_of_lem, at_readers}
 use Rattle.circles_order.specs.Inner.Turns.{SureAt}
-use Rattle.circles_order.proofs.Cursors.{moved_none, moved_join, passing_more}
+use Rattle.circles_order.proofs.Cursors.{moved_join, passing_more}
 use Rattle.circles_order.proofs.ranks.retire.Goals as goal
-
-pub loop-e-init : goal.loop-e-init
-loop-e-init c =
-    let r = c.args.r in
-    let g = r.g in
-    let p = c.requires.y_lt_n in
-    let k = c.requires.cursors in
-    (moved_none p.2.few k.0 k.1, upto_start (λ i. SureAt g.n g.a.now g.b.now r.labels.label.now r.taken.now c.args.cur.now (i / 2)) (chain_first p.1 p.0 c.from-e.ensures))
 
 pub touch-requires-clause-kin : goal.touch-requires-clause-kin
 touch-requires-clause-kin c =
@@ -20,12 +12,6 @@ touch-requires-clause-kin c =
     let el = c.loop-e-test.true in
     let w = arg_of_lem g.n g.a.now g.b.now c.loop-e.e c.args.y p.2.few el p.0 (c.loop-e.invariant.1.hit el) in
     (p.2, p.3, p.4, w.0, p.3.marked _ w.0 w.2)
-
-pub loop-e-smaller : goal.loop-e-smaller
-loop-e-smaller c =
-    let p = c.requires.y_lt_n in
-    let el = c.loop-e-test.true in
-    omega (arith, (chain_next p.1 p.0 el (c.loop-e.invariant.1.hit el) c.from-e-in-loop-e.ensures).from)
 
 pub loop-e-preserved : goal.loop-e-preserved
 loop-e-preserved c =

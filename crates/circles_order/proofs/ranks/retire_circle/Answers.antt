@@ -1,21 +1,7 @@
 -- What reads one member is touched, and on to the next member. Assumes nothing.
 use Rattle.std.proofs.Common.{arith}
-use Rattle.circles_order.proofs.Cursors.{member_next, moved_none, moved_join, walked_start, walked_more}
+use Rattle.circles_order.proofs.Cursors.{member_next, moved_join, walked_more}
 use Rattle.circles_order.proofs.ranks.retire_circle.Goals as goal
-
-pub loop-y-init : goal.loop-y-init
-loop-y-init c =
-    let r = c.args.r in
-    let g = r.g in
-    let p = c.requires.l_lt_n in
-    let k = c.requires.cursors in
-    (moved_none p.2.few k.0 k.1, walked_start g.a.now g.b.now r.taken.now c.args.cur.now c.args.l p.0 k.2 p.2)
-
-pub loop-y-smaller : goal.loop-y-smaller
-loop-y-smaller c =
-    let p = c.requires.l_lt_n in
-    let yl = c.loop-y-test.true in
-    omega (arith, (member_next p.2 p.0 yl (c.loop-y.invariant.1.hit yl) c.from-y.ensures).from)
 
 pub loop-y-preserved : goal.loop-y-preserved
 loop-y-preserved c =
