@@ -52,7 +52,7 @@ pub fn place_tree(
 
 // The nodes of the tree as it would be, or their own sets, front to back: what stays up to the next point, then its part; zeros behind. Gives their count.
 // A tree on the way from one point to the next might not fit, so no part is placed in `held` itself.
-#[tactic(auto, using(crate::proofs::Laying::turn_at, crate::proofs::Laying::tail_at))]
+#[tactic(auto, using(crate::proofs::Laying::splicings))]
 pub fn splice<T: Copy>(
     held: &[T],
     nodes: usize,
@@ -128,7 +128,7 @@ fn clear_node(table: &[u64; 2657], nodes: &[u8], at: usize, sets: &mut [u64])
 }
 
 // Empties the undeclared slots of every node.
-#[tactic(auto, using(crate::proofs::Slots::cleared_none, crate::proofs::Slots::cleared_next))]
+#[tactic(auto, using(crate::proofs::Slots::clearing))]
 fn clear_undeclared(table: &[u64; 2657], nodes: &[u8], sets: &mut [u64])
     requires limits { Limits table.now }
     requires numbered { Numbered table.now nodes.now }
