@@ -50,7 +50,7 @@ const FIRST_NOTE: u64 = 0x0100_0000_0000_0000;
 pub fn members(a: u64) -> u64
     ensures { MembersSay a result }
 {
-    u64::count_ones(a) as u64
+    u64::from(a.count_ones())
 }
 
 // The number that operation 7 compares with c: how many members a set has that aren't notes.
@@ -65,16 +65,15 @@ pub fn count(a: u64) -> u64
 pub fn value(equation: Equation, own: u64, a: u64, b: u64) -> u64
     ensures { ValueSays equation own a b result }
 {
-    let op = equation.op;
-    match op {
+    match equation.op {
         Op::Constant(c) => c,
         Op::Own => own,
         Op::JoinConstant(_, c) => a | c,
         Op::MeetConstant(_, c) => a & c,
         Op::Join(_, _) => a | b,
         Op::Meet(_, _) => a & b,
-        Op::IfAll(_, _, c) => { if c & a == c { b } else { 0 } }
-        Op::IfMany(_, _, c) => { if c <= count(a) { b } else { 0 } }
+        Op::IfAll(_, _, c) => if c & a == c { b } else { 0 },
+        Op::IfMany(_, _, c) => if c <= count(a) { b } else { 0 },
         Op::JoinOwn(_) => a | own,
         Op::Except(_, _) => a ^ (a & b),
     }

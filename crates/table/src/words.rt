@@ -33,6 +33,9 @@ const LEFT: u64 = 1_099_511_627_776;
 
 const COUNT: u64 = 4_294_967_296;
 
+// So many values a byte has.
+const BYTE: u64 = 256;
+
 // A word as an index.
 pub fn number(x: u64) -> usize
     ensures { result ≡ x }
@@ -40,97 +43,98 @@ pub fn number(x: u64) -> usize
     x as usize
 }
 
-pub fn symbol_count(table: &[u64; 2657]) -> usize
+#[tactic(auto, unfolding(crate::specs::Words::symbol_count))]
+pub fn symbol_count(table: &[u64; WORDS]) -> usize
     ensures { result ≡ symbol_count table.now }
 {
-    number(table[0] / UPPER)
+    (table[0] / UPPER) as usize
 }
 
-pub fn production_count(table: &[u64; 2657]) -> usize
+#[tactic(auto, unfolding(crate::specs::Words::production_count))]
+pub fn production_count(table: &[u64; WORDS]) -> usize
     ensures { result ≡ production_count table.now }
 {
-    number(table[0] % UPPER)
+    (table[0] % UPPER) as usize
 }
 
-pub fn synthesized_of(table: &[u64; 2657], s: usize) -> usize
+#[tactic(auto, unfolding(crate::specs::Words::synthesized))]
+pub fn synthesized_of(table: &[u64; WORDS], s: usize) -> usize
     requires { s < 32 }
     ensures { result ≡ synthesized table.now s }
 {
-    number(table[SYMBOLS + s] / UPPER)
+    (table[SYMBOLS + s] / UPPER) as usize
 }
 
-pub fn inherited_of(table: &[u64; 2657], s: usize) -> usize
+#[tactic(auto, unfolding(crate::specs::Words::inherited))]
+pub fn inherited_of(table: &[u64; WORDS], s: usize) -> usize
     requires { s < 32 }
     ensures { result ≡ inherited table.now s }
 {
-    number(table[SYMBOLS + s] % UPPER)
+    (table[SYMBOLS + s] % UPPER) as usize
 }
 
-pub fn left_of(table: &[u64; 2657], p: usize) -> usize
+#[tactic(auto, unfolding(crate::specs::Words::left_of))]
+pub fn left_of(table: &[u64; WORDS], p: usize) -> usize
     requires { p < 64 }
     ensures { result ≡ left_of table.now p }
 {
-    number(table[PRODUCTIONS + p] / LEFT)
+    (table[PRODUCTIONS + p] / LEFT) as usize
 }
 
-pub fn child_count(table: &[u64; 2657], p: usize) -> usize
+#[tactic(auto, unfolding(crate::specs::Words::child_count))]
+pub fn child_count(table: &[u64; WORDS], p: usize) -> usize
     requires { p < 64 }
     ensures { result ≡ child_count table.now p }
 {
-    number(table[PRODUCTIONS + p] / COUNT % 256)
+    (table[PRODUCTIONS + p] / COUNT % BYTE) as usize
 }
 
+// The symbol of a child: of the four bytes below the count the first child's is the highest.
 #[tactic(auto, unfolding(crate::specs::Words::child_of))]
-pub fn child_of(table: &[u64; 2657], p: usize, k: usize) -> usize
+pub fn child_of(table: &[u64; WORDS], p: usize, k: usize) -> usize
     requires { (p < 64) × (k < 4) }
     ensures { result ≡ child_of table.now p k }
 {
-    let word = table[PRODUCTIONS + p];
-    match k {
-        0 => number(word / 16_777_216 % 256),
-        1 => number(word / 65_536 % 256),
-        2 => number(word / 256 % 256),
-        _ => number(word % 256),
-    }
+    ((table[PRODUCTIONS + p] >> (24 - 8 * k)) % BYTE) as usize
 }
 
 // The symbol at a position of a production.
-pub fn symbol_at(table: &[u64; 2657], p: usize, q: usize) -> usize
+pub fn symbol_at(table: &[u64; WORDS], p: usize, q: usize) -> usize
     requires { (p < 64) × (q ≤ 4) }
     ensures { result ≡ symbol_at table.now p q }
 {
     if q == 0 {
-        return left_of(table, p);
+        left_of(table, p)
+    } else {
+        child_of(table, p, q - 1)
     }
-    child_of(table, p, q - 1)
 }
 
 // Whether a symbol has a set with an index.
-pub fn has_set(table: &[u64; 2657], s: usize, i: usize) -> bool
+#[tactic(auto, unfolding(crate::specs::Words::has_set))]
+pub fn has_set(table: &[u64; WORDS], s: usize, i: usize) -> bool
     requires { s < 32 }
     ensures { result ≡ has_set table.now s i }
 {
     if i < SETS_EACH {
-        return i < synthesized_of(table, s);
+        i < synthesized_of(table, s)
+    } else {
+        i - SETS_EACH < inherited_of(table, s)
     }
-    i - SETS_EACH < inherited_of(table, s)
 }
 
 // Whether a production has a set with an index at a position.
 #[tactic(auto, unfolding(crate::specs::Words::occurs))]
-pub fn occurs_at(table: &[u64; 2657], p: usize, q: usize, i: usize) -> bool
+pub fn occurs_at(table: &[u64; WORDS], p: usize, q: usize, i: usize) -> bool
     requires p_bound { p < 64 }
     requires shaped { Shaped table.now p }
     ensures { result ≡ occurs table.now p q i }
 {
-    if child_count(table, p) < q {
-        return false;
-    }
-    has_set(table, symbol_at(table, p, q), i)
+    q <= child_count(table, p) && has_set(table, symbol_at(table, p, q), i)
 }
 
 // How many equations a position of a production has.
-pub fn defined_at(table: &[u64; 2657], p: usize, q: usize) -> usize
+pub fn defined_at(table: &[u64; WORDS], p: usize, q: usize) -> usize
     requires p_bound { p < 64 }
     requires shaped { Shaped table.now p }
     requires q_bound { q ≤ child_count table.now p }
@@ -138,20 +142,23 @@ pub fn defined_at(table: &[u64; 2657], p: usize, q: usize) -> usize
 {
     let s = symbol_at(table, p, q);
     if q == 0 {
-        return synthesized_of(table, s);
+        synthesized_of(table, s)
+    } else {
+        inherited_of(table, s)
     }
-    inherited_of(table, s)
 }
 
 // The two words of a rule.
-pub fn head_at(table: &[u64; 2657], rule: usize) -> u64
+#[tactic(auto, unfolding(crate::specs::Words::head_at))]
+pub fn head_at(table: &[u64; WORDS], rule: usize) -> u64
     requires { rule < 1280 }
     ensures { result ≡ head_at table.now rule }
 {
     table[HEADS + 2 * rule]
 }
 
-pub fn constant_at(table: &[u64; 2657], rule: usize) -> u64
+#[tactic(auto, unfolding(crate::specs::Words::constant_at))]
+pub fn constant_at(table: &[u64; WORDS], rule: usize) -> u64
     requires { rule < 1280 }
     ensures { result ≡ constant_at table.now rule }
 {

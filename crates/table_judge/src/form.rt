@@ -11,49 +11,32 @@ const LAST: u64 = 9;
 const NOTES: u64 = 56;
 
 // Which fields an operation uses.
+#[tactic(auto, unfolding(table::specs::Equations::uses_a))]
 pub fn uses_a(op: u64) -> bool
     ensures { result ≡ uses_a op }
 {
-    if op < 2 {
-        return false;
-    }
-    op <= LAST
+    matches!(op, 2..=LAST)
 }
 
+#[tactic(auto, unfolding(table::specs::Equations::uses_b))]
 pub fn uses_b(op: u64) -> bool
     ensures { result ≡ uses_b op }
 {
-    if op < 4 {
-        return false;
-    }
-    if op <= 7 {
-        return true;
-    }
-    op == 9
+    matches!(op, 4..=7 | 9)
 }
 
 #[tactic(auto, unfolding(table::specs::Equations::uses_c))]
 pub fn uses_c(op: u64) -> bool
     ensures { result ≡ uses_c op }
 {
-    match op {
-        0 => true,
-        2 => true,
-        3 => true,
-        6 => true,
-        7 => true,
-        _ => false,
-    }
+    matches!(op, 0 | 2 | 3 | 6 | 7)
 }
 
 // A field that the operation does not use, and that is not zero.
 fn is_stray(used: bool, field: u64) -> bool
     ensures { result ≡ (not used && ltb 0 field) }
 {
-    if used {
-        return false;
-    }
-    0 < field
+    !used && 0 < field
 }
 
 // 4: no operation of that number, something in a field that it doesn't use, or an operation 7 with a c above 56.
@@ -62,20 +45,9 @@ pub fn is_misformed(head: u64, c: u64) -> bool
     ensures { result ≡ misformed head c }
 {
     let op = head / OPERATION;
-    if LAST < op {
-        return true;
-    }
-    if is_stray(uses_a(op), head / FIRST % FIRST) {
-        return true;
-    }
-    if is_stray(uses_b(op), head % FIRST) {
-        return true;
-    }
-    if is_stray(uses_c(op), c) {
-        return true;
-    }
-    if op == 7 {
-        return NOTES < c;
-    }
-    false
+    LAST < op
+        || is_stray(uses_a(op), head / FIRST % FIRST)
+        || is_stray(uses_b(op), head % FIRST)
+        || is_stray(uses_c(op), c)
+        || op == 7 && NOTES < c
 }

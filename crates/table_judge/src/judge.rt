@@ -2,15 +2,15 @@
 ghost use Rattle.std.specs.Prelude.{◌≡◌, ◌<◌, ◌≤◌};
 ghost use Rattle.refusal.specs.Numbers.{verdict_of};
 ghost use Rattle.table.specs.Words.{symbol_count, child_count};
-ghost use Rattle.table.specs.Judge.{header, symbol, production, equation, outside, symbol_wrong, misnamed, refusal_at, JudgeTableSays};
+ghost use Rattle.table.specs.Judge.{header, symbol, production, equation, symbol_wrong, misnamed, refusal_at, JudgeTableSays};
 ghost use Rattle.table.specs.Inner.Parts.{symbols_of, position_of, equations_of, part_number, productions_of};
 ghost use Rattle.table.specs.Shape.{Symbols, Shaped};
 
 use crate::form::{is_misformed, uses_a, uses_b};
 use refusal::Refusal;
 use table::{
-    FIRST, OPERATION, RULES_EACH, SETS_EACH, UPPER, child_count, constant_at, defined_at, head_at,
-    inherited_of, number, occurs_at, production_count, symbol_at, symbol_count, synthesized_of,
+    FIRST, OPERATION, RULES_EACH, SETS_EACH, UPPER, WORDS, child_count, constant_at, defined_at,
+    head_at, inherited_of, occurs_at, production_count, symbol_at, symbol_count, synthesized_of,
 };
 
 // So many symbols and productions a table has at the most, and so many children a production.
@@ -20,51 +20,37 @@ const PRODUCTIONS_MOST: usize = 64;
 
 const CHILDREN_MOST: usize = 4;
 
-fn is_outside(low: usize, high: usize, n: usize) -> bool
-    ensures { result ≡ outside low high n }
-{
-    if n < low {
-        return true;
-    }
-    high < n
-}
-
 // The header's frame.
-pub fn judge_header(table: &[u64; 2657]) -> Result<(), Refusal>
+#[tactic(auto, unfolding(table::specs::Judge::refusal_at))]
+pub fn judge_header(table: &[u64; WORDS]) -> Result<(), Refusal>
     ensures { verdict_of result ≡ refusal_at table.now header }
 {
-    if is_outside(1, SYMBOLS_MOST, symbol_count(table)) {
-        return Err(Refusal::Count);
-    }
-    if is_outside(1, PRODUCTIONS_MOST, production_count(table)) {
+    if !(1..=SYMBOLS_MOST).contains(&symbol_count(table))
+        || !(1..=PRODUCTIONS_MOST).contains(&production_count(table))
+    {
         return Err(Refusal::Count);
     }
     Ok(())
 }
 
 // A symbol's frame.
-pub fn judge_symbol(table: &[u64; 2657], s: usize) -> Result<(), Refusal>
+#[tactic(auto, unfolding(table::specs::Judge::refusal_at))]
+pub fn judge_symbol(table: &[u64; WORDS], s: usize) -> Result<(), Refusal>
     requires { s < 32 }
     ensures { verdict_of result ≡ refusal_at table.now (symbol s) }
 {
-    if SETS_EACH < synthesized_of(table, s) {
-        return Err(Refusal::Count);
-    }
     let inherited = inherited_of(table, s);
-    if SETS_EACH < inherited {
+    if SETS_EACH < synthesized_of(table, s) || SETS_EACH < inherited {
         return Err(Refusal::Count);
     }
-    if s != 0 {
-        return Ok(());
-    }
-    if 0 < inherited {
+    if s == 0 && 0 < inherited {
         return Err(Refusal::Start);
     }
     Ok(())
 }
 
-#[tactic(auto, using(refusal::proofs::Distinct::handed_number, table::proofs::Steps::stops, table::proofs::FirstLaws::scan_zero, table::proofs::FirstLaws::scan_step))]
-fn judge_symbols(table: &[u64; 2657]) -> Result<(), Refusal>
+#[tactic(auto, using(table::proofs::Steps::turns))]
+fn judge_symbols(table: &[u64; WORDS]) -> Result<(), Refusal>
     requires { symbol_count table.now ≤ 32 }
     ensures { verdict_of result ≡ symbols_of table.now }
 {
@@ -76,24 +62,19 @@ fn judge_symbols(table: &[u64; 2657]) -> Result<(), Refusal>
 }
 
 // Whether a symbol of a production isn't below the symbol count.
-fn is_foreign(table: &[u64; 2657], p: usize) -> bool
+fn is_foreign(table: &[u64; WORDS], p: usize) -> bool
     requires p_bound { p < 64 }
     requires children_bound { child_count table.now p ≤ 4 }
     ensures { result ≡ symbol_wrong table.now (production p) }
 {
     let symbols = symbol_count(table);
-    let count = child_count(table, p);
-    for q in 0..=count {
-        if symbols <= symbol_at(table, p, q) {
-            return true;
-        }
-    }
-    false
+    let positions = child_count(table, p) + 1;
+    (0..positions).any(|q| symbols <= symbol_at(table, p, q))
 }
 
 // A production's frame.
 #[tactic(auto, unfolding(table::specs::Judge::refusal_at))]
-pub fn judge_production(table: &[u64; 2657], p: usize) -> Result<(), Refusal>
+pub fn judge_production(table: &[u64; WORDS], p: usize) -> Result<(), Refusal>
     requires { p < 64 }
     ensures { verdict_of result ≡ refusal_at table.now (production p) }
 {
@@ -108,22 +89,17 @@ pub fn judge_production(table: &[u64; 2657], p: usize) -> Result<(), Refusal>
 
 // 5: an argument that is used and names no declared occurrence.
 #[tactic(auto, unfolding(table::specs::Judge::misnamed))]
-fn is_misnamed(table: &[u64; 2657], p: usize, used: bool, x: u64) -> bool
+fn is_misnamed(table: &[u64; WORDS], p: usize, used: bool, x: u64) -> bool
     requires p_bound { p < 64 }
     requires shaped { Shaped table.now p }
     ensures { result ≡ misnamed table.now p used x }
 {
-    if used {
-        let q = number(x / UPPER);
-        let i = number(x % UPPER);
-        return !occurs_at(table, p, q, i);
-    }
-    false
+    used && !occurs_at(table, p, (x / UPPER) as usize, (x % UPPER) as usize)
 }
 
 // An equation's frame.
 #[tactic(auto, unfolding(table::specs::Judge::refusal_at, table::specs::Words::rule_of, table::specs::Equations::op_number, table::specs::Equations::a_field, table::specs::Equations::b_field))]
-pub fn judge_equation(table: &[u64; 2657], p: usize, q: usize, k: usize) -> Result<(), Refusal>
+pub fn judge_equation(table: &[u64; WORDS], p: usize, q: usize, k: usize) -> Result<(), Refusal>
     requires p_bound { p < 64 }
     requires shaped { Shaped table.now p }
     requires q_bound { (q ≤ 4) × (k < 4) }
@@ -135,18 +111,17 @@ pub fn judge_equation(table: &[u64; 2657], p: usize, q: usize, k: usize) -> Resu
         return Err(Refusal::Form);
     }
     let op = head / OPERATION;
-    if is_misnamed(table, p, uses_a(op), head / FIRST % FIRST) {
-        return Err(Refusal::Argument);
-    }
-    if is_misnamed(table, p, uses_b(op), head % FIRST) {
+    if is_misnamed(table, p, uses_a(op), head / FIRST % FIRST)
+        || is_misnamed(table, p, uses_b(op), head % FIRST)
+    {
         return Err(Refusal::Argument);
     }
     Ok(())
 }
 
 // The equations of one position of a production.
-#[tactic(auto, using(refusal::proofs::Distinct::handed_number, table::proofs::Steps::stops, table::proofs::FirstLaws::scan_zero, table::proofs::FirstLaws::scan_step))]
-fn judge_position(table: &[u64; 2657], p: usize, q: usize) -> Result<(), Refusal>
+#[tactic(auto, using(table::proofs::Steps::turns))]
+fn judge_position(table: &[u64; WORDS], p: usize, q: usize) -> Result<(), Refusal>
     requires p_bound { p < 64 }
     requires shaped { Shaped table.now p }
     requires q_bound { q ≤ child_count table.now p }
@@ -160,8 +135,8 @@ fn judge_position(table: &[u64; 2657], p: usize, q: usize) -> Result<(), Refusal
 }
 
 // All equations of a production.
-#[tactic(auto, using(refusal::proofs::Distinct::handed_number, table::proofs::Steps::stops, table::proofs::FirstLaws::scan_zero, table::proofs::FirstLaws::scan_step, table::proofs::FirstLaws::scan_last))]
-fn judge_equations(table: &[u64; 2657], p: usize) -> Result<(), Refusal>
+#[tactic(auto, using(table::proofs::Steps::turns))]
+fn judge_equations(table: &[u64; WORDS], p: usize) -> Result<(), Refusal>
     requires p_bound { p < 64 }
     requires shaped { Shaped table.now p }
     ensures { verdict_of result ≡ equations_of table.now p }
@@ -174,7 +149,7 @@ fn judge_equations(table: &[u64; 2657], p: usize) -> Result<(), Refusal>
 }
 
 // A production with its equations.
-fn judge_part(table: &[u64; 2657], p: usize) -> Result<(), Refusal>
+fn judge_part(table: &[u64; WORDS], p: usize) -> Result<(), Refusal>
     requires p_bound { p < 64 }
     requires symbols { Symbols table.now }
     ensures { verdict_of result ≡ part_number table.now p }
@@ -183,8 +158,8 @@ fn judge_part(table: &[u64; 2657], p: usize) -> Result<(), Refusal>
     judge_equations(table, p)
 }
 
-#[tactic(auto, using(refusal::proofs::Distinct::handed_number, table::proofs::Steps::stops, table::proofs::FirstLaws::scan_zero, table::proofs::FirstLaws::scan_step))]
-fn judge_productions(table: &[u64; 2657]) -> Result<(), Refusal>
+#[tactic(auto, using(table::proofs::Steps::turns))]
+fn judge_productions(table: &[u64; WORDS]) -> Result<(), Refusal>
     requires { Symbols table.now }
     ensures { verdict_of result ≡ productions_of table.now }
 {
@@ -196,8 +171,8 @@ fn judge_productions(table: &[u64; 2657]) -> Result<(), Refusal>
 }
 
 // The table: its frames in order.
-#[tactic(auto, using(refusal::proofs::Distinct::handed_number, table::proofs::Steps::or_stops, table::proofs::Parts::judge_parts))]
-pub fn judge_table(table: &[u64; 2657]) -> Result<(), Refusal>
+#[tactic(auto, using(table::proofs::Steps::turns, table::proofs::Parts::judge_parts))]
+pub fn judge_table(table: &[u64; WORDS]) -> Result<(), Refusal>
     ensures { JudgeTableSays table.now result }
 {
     judge_header(table)?;

@@ -1,11 +1,10 @@
 -- Sizes, ends and places of children. Assumes nothing.
-use Prim.Native.Nat.{ℕ, zero, suc, ◌+◌, ◌≤◌, ◌<◌}
+use Prim.Native.Nat.{ℕ, zero, suc, ◌+◌, ◌≤◌, ◌<◌, ◌-◌}
 use mathlib.Core.Path.{◌≡◌, refl, ap, sym, ◌∙◌}
 use mathlib.Core.List.{List, [], ◌∷◌}
-use lib.ListN.{length, get_or, drop, set, length-drop, drop_of_length-le}
-use mathlib.Core.Logic.{⊎_elim}
-use lib.Seq.{drop-cons, drop-drop, get_or-set_same, get_or-set_other}
-use native.Mathlib.Nat.{eq-or-lt_of_le, zero-add, suc-add, add-zero, add_assoc}
+use lib.ListN.{length, get_or, drop, length-drop, drop_of_length-le}
+use lib.Seq.{drop-cons, drop-drop}
+use native.Mathlib.Nat.{zero-add, suc-add, add-zero, add_assoc}
 use native.Mathlib.Numerals.{add-one}
 use native.Mathlib.Omega.{arith}
 use Rattle.table.specs.Words.{child_count}
@@ -61,27 +60,27 @@ module _ (t : List ℕ) where
     child_le n k h = omega (arith, size_le (drop (suc n) ns) k, length-drop (suc n) ns)
 
 -- one turn of the walk over a node's children: behind child k is child k + 1
-module _ (t ns ends : List ℕ) (at k next : ℕ) (e : next ≡ child_at t ns at k) where
-  pub turn_in : Ended t ns (at + 1) ends → next < length ns → get_or ends next 0 ≡ child_at t ns at (k + 1)
-  turn_in f h = rw (add-one, child_next) (f next (omega (arith, child_after t ns at k)) h ∙ ap (span_end t ns) e)
+pub turn_in : (t ns ends : List ℕ) (at k next : ℕ) → next ≡ child_at t ns at k → Ended t ns (at + 1) ends → next < length ns → get_or ends next 0 ≡ child_at t ns at (k + 1)
+turn_in t ns ends at k next e f h = rw (add-one, child_next) (f next (omega (arith, child_after t ns at k)) h ∙ ap (span_end t ns) e)
 
-  pub in_fits : Ended t ns (at + 1) ends → at < length ns → next < length ns → get_or ends next 0 ≤ length ns
-  in_fits f g h = rw (turn_in f h) (child_le t ns at (k + 1) g)
+-- the walk: where it begins, a turn, and its end behind the last child
+module _ (t ns : List ℕ) (at : ℕ) where
+  pub turn_first : at + 1 ≡ child_at t ns at 0
+  turn_first = add-one at ∙ sym (child_first t ns at)
 
--- behind the last node every further child is where the walk stands
-pub turns_out : (t ns : List ℕ) (at k next : ℕ) → next ≡ child_at t ns at k → length ns ≤ next → (j : ℕ) → next ≡ child_at t ns at (j + k)
-turns_out t ns at k next e h zero = e ∙ ap (child_at t ns at) (sym (zero-add k))
-turns_out t ns at k next e h (suc j) =
-    sym (end_out t ns next h) ∙ ap (span_end t ns) (turns_out t ns at k next e h j) ∙ sym (child_next t ns at (j + k)) ∙ ap (child_at t ns at) (sym (suc-add j k))
+  pub turn_next : (ends : List ℕ) (k next new : ℕ) → new ≡ get_or ends next 0 → next ≡ child_at t ns at k → Ended t ns (at + 1) ends → next < length ns → new ≡ child_at t ns at (k + 1)
+  turn_next ends k next new d e f h = d ∙ turn_in t ns ends at k next e f h
 
--- behind the last child is the end
-pub turn_last : (t ns : List ℕ) (at p k next count : ℕ) → at < length ns → p ≡ get_or ns at 0 → count ≡ child_count t p → k ≡ count → next ≡ child_at t ns at k → next ≡ span_end t ns at
-turn_last t ns at p k next count h e f g i = i ∙ ap (child_at t ns at) (g ∙ f ∙ ap (child_count t) e) ∙ sym (end_node t ns at h)
+  pub turn_last : (p next count : ℕ) → at < length ns → p ≡ get_or ns at 0 → count ≡ child_count t p → next ≡ child_at t ns at count → next ≡ span_end t ns at
+  turn_last p next count h e f i = i ∙ ap (child_at t ns at) (f ∙ ap (child_count t) e) ∙ sym (end_node t ns at h)
 
--- one more end, written in front of those that are there
-module _ (t ns ends : List ℕ) (at : ℕ) (h : at < length ends) where
-  pub ended_more : Ended t ns (at + 1) ends → Ended t ns at (set ends at (span_end t ns at))
-  ended_more f n le lt = ⊎_elim
-      (λ e. rw (← e) (get_or-set_same ends at (span_end t ns at) 0 h))
-      (λ l. get_or-set_other ends at n (span_end t ns at) 0 (λ e. omega arith) ∙ f n (omega arith) lt)
-      (eq-or-lt_of_le le)
+  -- behind the last node every further child is where the walk stands
+  out : (k next : ℕ) → next ≡ child_at t ns at k → length ns ≤ next → (j : ℕ) → next ≡ child_at t ns at (j + k)
+  out k next e h zero = e ∙ ap (child_at t ns at) (sym (zero-add k))
+  out k next e h (suc j) =
+      sym (end_out t ns next h) ∙ ap (span_end t ns) (out k next e h j) ∙ sym (child_next t ns at (j + k)) ∙ ap (child_at t ns at) (sym (suc-add j k))
+
+  pub turn_out : (p k next count : ℕ) → at < length ns → p ≡ get_or ns at 0 → count ≡ child_count t p → next ≡ child_at t ns at k → k ≤ count → length ns ≤ next → next ≡ span_end t ns at
+  turn_out p k next count h e f i l o =
+      let z : count - k + k ≡ count = omega arith in
+      turn_last p next count h e f (rw z at (out k next i o (count - k)))

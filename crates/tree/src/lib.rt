@@ -3,7 +3,7 @@
 
 ghost use Rattle.std.specs.Prelude.{◌≡◌, [], ◌∷◌, suc, ◌+◌, ◌-◌, ◌<◌, ◌≤◌, length, take};
 ghost use Rattle.refusal.specs.Numbers.{verdict_of};
-ghost use Rattle.table.specs.Words.{production_count, child_count, children_from};
+ghost use Rattle.table.specs.Words.{production_count, children};
 ghost use Rattle.table.specs.Limits.{Limits};
 ghost use Rattle.tree.specs.Tree.{nodes_most, judge_nodes, span_end};
 ghost use Rattle.tree.specs.Refusals.{JudgeTreeSays};
@@ -11,7 +11,7 @@ ghost use Rattle.tree.specs.Inner.Says.{Says};
 ghost use Rattle.tree.specs.Inner.Spans.{Numbers, Ended, Spans};
 
 use refusal::Refusal;
-use table::{child_count, child_of, left_of, production_count};
+use table::{WORDS, child_count, child_of, left_of, production_count};
 use table_judge::judge_table;
 
 // So many nodes a tree has at the most.
@@ -56,7 +56,7 @@ pub fn index(x: u8) -> usize
 // Reads one subtree of `symbol` at `at`: a node, and behind it the row of its children. Where what it read ends, or what is wrong there.
 #[cycle(row_subtree)]
 fn subtree(
-    table: &[u64; 2657],
+    table: &[u64; WORDS],
     productions: &[u8],
     at: usize,
     symbol: usize,
@@ -68,41 +68,38 @@ fn subtree(
     if productions.len() <= at {
         return Err(Refusal::Shape);
     }
-    let p = index(productions[at]);
+    let p = usize::from(productions[at]);
     if production_count(table) <= p {
         return Err(Refusal::Production);
     }
     if left_of(table, p) != symbol {
         return Err(Refusal::Shape);
     }
-    row(table, productions, at + 1, p, 0)
+    row(table, productions, at + 1, p)
 }
 
-// Reads the row of a production's children from child `child` on, each by the reading of a subtree. What is unread falls from call to call.
+// Reads the row of a production's children, each by the reading of a subtree. What is unread falls from call to call.
 #[cycle(row_subtree)]
 fn row(
-    table: &[u64; 2657],
+    table: &[u64; WORDS],
     productions: &[u8],
     at: usize,
     production: usize,
-    child: usize,
 ) -> Result<usize, Refusal>
     requires limits { Limits table.now }
     requires at_in_bounds { at ≤ length productions.now }
     requires production_bound { production < production_count table.now }
-    requires child_bound { child ≤ child_count table.now production }
-    ensures { Says table.now productions.now at at (children_from table.now production (child_count table.now production - child) child) result }
+    ensures { Says table.now productions.now at at (children table.now production) result }
 {
-    if child_count(table, production) <= child {
-        return Ok(at);
+    let mut next = at;
+    for child in 0..child_count(table, production) {
+        next = subtree(table, productions, next, child_of(table, production, child))?;
     }
-    let symbol = child_of(table, production, child);
-    let next = subtree(table, productions, at, symbol)?;
-    row(table, productions, next, production, child + 1)
+    Ok(next)
 }
 
 // Judges nodes over a judged table: whether they are one subtree of `symbol`, and nothing behind it.
-pub fn judge_nodes(table: &[u64; 2657], productions: &[u8], symbol: usize) -> Result<(), Refusal>
+pub fn judge_nodes(table: &[u64; WORDS], productions: &[u8], symbol: usize) -> Result<(), Refusal>
     requires { Limits table.now }
     ensures { verdict_of result ≡ judge_nodes table.now productions.now (symbol ∷ []) }
 {
@@ -110,15 +107,16 @@ pub fn judge_nodes(table: &[u64; 2657], productions: &[u8], symbol: usize) -> Re
     if productions.len() <= next {
         return Ok(());
     }
-    let over = index(productions[next]);
+    let over = usize::from(productions[next]);
     if production_count(table) <= over {
-        return Err(Refusal::Production);
+        Err(Refusal::Production)
+    } else {
+        Err(Refusal::Shape)
     }
-    Err(Refusal::Shape)
 }
 
 // The same of the first `n` nodes of a longer slice.
-pub fn judge_held(table: &[u64; 2657], held: &[u8], n: usize, symbol: usize) -> Result<(), Refusal>
+pub fn judge_held(table: &[u64; WORDS], held: &[u8], n: usize, symbol: usize) -> Result<(), Refusal>
     requires limits { Limits table.now }
     requires n_in_bounds { n ≤ length held.now }
     ensures { verdict_of result ≡ judge_nodes table.now (take n held.now) (symbol ∷ []) }
@@ -127,7 +125,8 @@ pub fn judge_held(table: &[u64; 2657], held: &[u8], n: usize, symbol: usize) -> 
 }
 
 // Judges a table and a tree that is handed in, whose root is to be of symbol 0.
-pub fn judge_tree(table: &[u64; 2657], productions: &[u8], owns: &[u64]) -> Result<(), Refusal>
+#[tactic(auto, using(crate::proofs::Handed::handing))]
+pub fn judge_tree(table: &[u64; WORDS], productions: &[u8], owns: &[u64]) -> Result<(), Refusal>
     ensures { JudgeTreeSays table.now productions.now owns.now result }
 {
     judge_table(table)?;
@@ -141,37 +140,33 @@ pub fn judge_tree(table: &[u64; 2657], productions: &[u8], owns: &[u64]) -> Resu
 }
 
 // The end of node `at`'s subtree, where `ends` has those of the nodes behind it: from child to child.
-fn end_of(table: &[u64; 2657], productions: &[u8], ends: &[u16], at: usize) -> usize
+#[tactic(auto, using(crate::proofs::Size::turn_first, crate::proofs::Size::turn_next, crate::proofs::Size::turn_last))]
+fn end_of(table: &[u64; WORDS], productions: &[u8], ends: &[u16], at: usize) -> usize
     requires at_in_bounds { at < length productions.now }
     requires productions_len_bound { (length productions.now ≤ nodes_most) × (length productions.now ≤ length ends.now) }
     requires numbers { Numbers productions.now }
     requires ended { Ended table.now productions.now (at + 1) ends.now }
     ensures { result ≡ span_end table.now productions.now at }
 {
-    let p = index(productions[at]);
-    let count = child_count(table, p);
-    let mut next = at + 1;
-    let mut child = 0;
-    while child < count {
-        if productions.len() <= next {
-            return next;
+    let p = usize::from(productions[at]);
+    let mut behind = at + 1;
+    for _ in 0..child_count(table, p) {
+        if productions.len() <= behind {
+            return behind;
         }
-        next = ends[next] as usize;
-        child += 1;
+        behind = usize::from(ends[behind]);
     }
-    next
+    behind
 }
 
 // Writes the end of each node's subtree, from the last node to the first: each node looks at its children alone.
-pub fn spans(table: &[u64; 2657], productions: &[u8], ends: &mut [u16])
+#[tactic(auto, using(crate::proofs::Size::end_le))]
+pub fn spans(table: &[u64; WORDS], productions: &[u8], ends: &mut [u16])
     requires productions_len_bound { (length productions.now ≤ nodes_most) × (length productions.now ≤ length ends.old) }
     requires numbers { Numbers productions.now }
     ensures { Spans table.now productions.now ends.old ends.new }
 {
-    let mut at = productions.len();
-    while 0 < at {
-        at -= 1;
-        let end = end_of(table, productions, &*ends, at);
-        ends[at] = end as u16;
+    for at in (0..productions.len()).rev() {
+        ends[at] = end_of(table, productions, ends, at) as u16;
     }
 }

@@ -5,10 +5,5 @@ use Rattle.tree.proofs.spans.Given as goal
 
 abbrev pub invariant-loop-at : goal.invariant-loop-at
 invariant-loop-at l =
-    (length l.ends ≡ length l.initial.ends)
-    × (l.at ≤ length l.productions)
-    × (Ended l.table l.productions l.at l.ends)
+    (Ended l.table l.productions l.at l.ends)
     × ((n : ℕ) → length l.productions ≤ n → get_or l.ends n 0 ≡ get_or l.initial.ends n 0)
-
-abbrev pub decreases-loop-at : goal.decreases-loop-at
-decreases-loop-at l = l.at

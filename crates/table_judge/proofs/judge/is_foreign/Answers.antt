@@ -1,25 +1,16 @@
--- The positions of a production in order: each turn's test continues the search or ends it. Assumes nothing.
-use Rattle.std.proofs.Common.{◌≤◌, ◌<◌, suc, sym, arith, le-leb}
-use Rattle.std.proofs.lemmas.Bool.{lt-leb}
+-- A position is foreign where the search over the positions, as a list of numbers, finds one. Assumes nothing.
+use Rattle.std.proofs.Common.{◌+◌, arith, rules, tests, add-one, ap, ◌∙◌}
+use Rattle.std.proofs.lemmas.Iterator.{YieldsList-from_range}
+use Rattle.std.proofs.lemmas.Iterator.Search.{any_from_yields_List}
+use Rattle.table.specs.First.{some_below}
+use Rattle.table.specs.Words.{child_count}
 use Rattle.table.specs.Judge.{foreign_at}
-use Rattle.table.specs.Words.{child_count, symbol_count, symbol_at}
-use Rattle.table.proofs.FirstLaws.{some_zero, some_step, some_last, some_stop}
+use Rattle.table.proofs.FirstLaws.{any_below}
 use Rattle.table_judge.proofs.judge.is_foreign.Goals as goal
 
-pub loop-q-init : goal.loop-q-init
-loop-q-init c = some_zero (foreign_at c.args.table.now c.args.p)
-
-pub returns-then-symbols-symbol_at : goal.returns-then-symbols-symbol_at
-returns-then-symbols-symbol_at c =
-    let h : symbol_count c.args.table.now ≤ symbol_at c.args.table.now c.args.p c.loop-q.q = omega arith in
-    sym (some_stop (foreign_at c.args.table.now c.args.p) c.loop-q.q (suc (child_count c.args.table.now c.args.p)) (omega arith) (le-leb _ _ h))
-
-pub loop-q-preserved : goal.loop-q-preserved
-loop-q-preserved c =
-    let h : symbol_at c.args.table.now c.args.p c.loop-q.q < symbol_count c.args.table.now = omega arith in
-    some_step (foreign_at c.args.table.now c.args.p) c.loop-q.q c.loop-q.invariant (lt-leb _ _ h)
-
-pub returns-else-symbols-symbol_at : goal.returns-else-symbols-symbol_at
-returns-else-symbols-symbol_at c =
-    let h : symbol_at c.args.table.now c.args.p c.loop-q.q < symbol_count c.args.table.now = omega arith in
-    sym (some_last (foreign_at c.args.table.now c.args.p) c.loop-q.q (child_count c.args.table.now c.args.p) (omega arith) c.loop-q.invariant (lt-leb _ _ h))
+pub returns : goal.returns
+returns c =
+    let f = foreign_at c.args.table.now c.args.p in
+    let n = child_count c.args.table.now c.args.p + 1 in
+    any_from_yields_List f _ _ _ c.any.ensures.ran (YieldsList-from_range 0 n n (cc) (omega arith)) (λ x b q k. search (rules, tests))
+    ∙ any_below f n ∙ ap (some_below f) (add-one _)
