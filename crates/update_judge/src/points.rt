@@ -14,7 +14,7 @@ ghost use Rattle.refusal.specs.Orders.{refusal_by};
 
 use crate::trees::part_of;
 use refusal::Refusal;
-use table::left_of;
+use table::{WORDS, left_of};
 use tree::{Cut, Cuts, Places, Point, judge_nodes};
 use update::{Record, is_open};
 
@@ -58,7 +58,7 @@ pub fn judge_named(record: Record, points: Places) -> Result<(), Refusal>
 }
 
 // A point's cut: its subtree is counted.
-fn cut_of(table: &[u64; 2657], tree: &[u8], point: Point) -> Cut
+fn cut_of(table: &[u64; WORDS], tree: &[u8], point: Point) -> Cut
     requires limits { Limits table.now }
     requires numbered { Numbered table.now tree.now }
     requires node_in_bounds { point.node < length tree.now }
@@ -73,7 +73,7 @@ fn cut_of(table: &[u64; 2657], tree: &[u8], point: Point) -> Cut
 }
 
 // The cuts of all the points.
-pub fn cuts_of(table: &[u64; 2657], tree: &[u8], points: Places) -> Cuts
+pub fn cuts_of(table: &[u64; WORDS], tree: &[u8], points: Places) -> Cuts
     requires limits { Limits table.now }
     requires numbered { Numbered table.now tree.now }
     requires tree_len_bound { (length tree.now ≤ nodes_most) × (points.count ≤ 8) × (missing (length tree.now) (bare_row (named_points points)) ≡ false) }
@@ -84,7 +84,7 @@ pub fn cuts_of(table: &[u64; 2657], tree: &[u8], points: Places) -> Cuts
         old: 0,
         count: 0,
     };
-    let mut cuts = [none; 8];
+    let mut cuts = [none; Record::POINTS];
     for (i, point) in points.points[..points.count].iter().enumerate() {
         cuts[i] = cut_of(table, tree, *point);
     }
@@ -154,7 +154,7 @@ fn is_passing(nodes: usize, cuts: Cuts) -> bool
 
 // The part of one cut, which begins at `at`: its root is to have the symbol of the node that it replaces.
 fn judge_cut(
-    table: &[u64; 2657],
+    table: &[u64; WORDS],
     tree: &[u8],
     cut: Cut,
     new: &[u8],
@@ -172,7 +172,7 @@ fn judge_cut(
 
 // The parts in their order.
 #[tactic(auto, using(crate::proofs::Walks::judgings))]
-fn judge_parts(table: &[u64; 2657], tree: &[u8], cuts: Cuts, new: &[u8]) -> Result<(), Refusal>
+fn judge_parts(table: &[u64; WORDS], tree: &[u8], cuts: Cuts, new: &[u8]) -> Result<(), Refusal>
     requires limits { Limits table.now }
     requires numbered { Numbered table.now tree.now }
     requires small { Small (length tree.now) cuts }
@@ -191,7 +191,7 @@ fn judge_parts(table: &[u64; 2657], tree: &[u8], cuts: Cuts, new: &[u8]) -> Resu
 // the first part's number.
 #[tactic(auto, using(crate::proofs::Rows::fitting))]
 pub fn judge_row(
-    table: &[u64; 2657],
+    table: &[u64; WORDS],
     tree: &[u8],
     points: Places,
     cuts: Cuts,
