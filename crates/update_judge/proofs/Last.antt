@@ -24,6 +24,7 @@ use Rattle.update_judge.proofs.Rows.{handed_cut, left_few, left_sound, splices}
 use Rattle.update_place.specs.Inner.Pieces.{spliced_by, Fitting}
 use Rattle.update_place.specs.Inner.Splicing.{Splicing}
 use Rattle.update_place.proofs.Spliced.{splicing_fits, splicing_nodes}
+use Rattle.refusal.proofs.Distinct.{handed_number}
 
 module _ (o : Order) (t ns : List ℕ) (z : refusal_by o ≡ 0) where
   last : refusal_by (o ++ waiver_order t ns) ≡ when (waives t ns) 21
@@ -87,3 +88,9 @@ module _ (t ns : List ℕ) (points : Places) (cs : Cuts) (new new_owns : List �
 
     pub row_free : waives t (spliced_by cs new ns) ≡ false → 0 ≡ refusal_by (last_order t ns (handed_row (named_points points) new new_owns))
     row_free h = last_free fits t later z (sym (ap (waives t) built) ∙ h)
+
+-- ---- what each function is proved by
+
+pub ruleset loaded = (handed_number, load_refused, load_waived, load_free)
+
+pub ruleset replaced = (handed_number, row_refused, row_waived, row_free)

@@ -27,6 +27,7 @@ use Rattle.update.proofs.Refusing.{new_right, asked_right, ground_right, look_ri
 pub use Rattle.update.proofs.Ready.{tree_equal, tree_sound}
 use Rattle.wire.specs.Instances.{declared}
 use Rattle.update_judge.specs.Order.{named_order, fit_order, Grounded, Holding, Named, Going}
+use Rattle.refusal.proofs.Distinct.{handed_number}
 
 -- a number that is given where a test holds, and is not given
 unmet : (b : Bool) (n : ℕ) → when b (suc n) ≡ 0 → b ≡ false
@@ -284,3 +285,15 @@ module _ (t held owns : List ℕ) (r : Record) where
 
   pub going_stopped : (q : Refusal) → number_of q ≡ refusal_by (held_order t held owns r) → number_of q ≡ refusal_by (going_order t held owns r)
   going_stopped q e = stopped (held_order t held owns r) (unless 17 (is_open_kind r.«open») ∷ []) q e
+
+-- ---- what each function is proved by
+
+pub ruleset holding = (held_absent, held_last)
+
+pub ruleset loading = (load_size, load_unequal, load_judged)
+
+pub ruleset looking = (handed_number, ground_table, ground_nodes, look_busy, look_held, look_stopped)
+
+pub ruleset idling = (handed_number, going_on, going_idle, going_stopped)
+
+pub ruleset stepping = (handed_number, ground_table, ground_nodes, step_going, step_ground)

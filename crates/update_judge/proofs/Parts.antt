@@ -68,3 +68,9 @@ part_fits t ns point h =
     let s = size_le t (drop point ns) 1 in
     let d = length-drop point ns in
     (omega arith, omega arith)
+
+-- ---- what each function is proved by
+
+pub ruleset declaring = (node_of_table, symbol_below)
+
+pub ruleset counting = (rest_all, size_at, size_done, size_end, number_at, arity_at)

@@ -32,6 +32,9 @@ use Rattle.update_judge.proofs.Orders.{row_meets, row_passes, row_parts, fits}
 use Rattle.update_judge.proofs.Outlines.{Even, even_back, uneven, handed_even, handed_outlined, outlined_length, outlined_missing, outlined_meets, outlined_leaving, outlined_coming, outlined_shifted, announced_coming, even_judge, uneven_seven, bare_length, bare_missing, cuts_are}
 use Rattle.update_judge.proofs.Walks.{places_length}
 use Rattle.refusal.proofs.Orders.{order_gives, past, stopped}
+use Rattle.refusal.proofs.Distinct.{handed_number}
+use Rattle.update_judge.proofs.Orders.{ground_table, ground_nodes}
+use Rattle.update_judge.proofs.Outlines.{missing_named}
 
 -- ---- 10 and 22
 
@@ -236,3 +239,13 @@ module _ (t ns : List ℕ) (points : Places) (cs : Cuts) (new new_owns : List �
           let v : evenly (named_points points) new new_owns ≡ true = even_back (named_points points) new new_owns (record { nodes = omega (arith, announces, few); owned = omega (arith, announces, few) }) in
           parts (judge_cuts t ns (named_cuts cs) new)
           (ap (λ cuts. judge_cuts t ns cuts new) (cuts_are t ns (named_points points) cs a.cutting) ∙ even_judge t ns (named_points points) new new_owns v)
+
+-- ---- what each function is proved by
+
+pub ruleset asking = (asked_open, asked_none, asked_many, asked_some)
+
+pub ruleset naming = (handed_number, missing_named, asked_few, named_absent, named_missing, named_sound, named_stopped)
+
+pub ruleset aiming = (handed_number, ground_table, ground_nodes, aim_ground, aim_asked, aim_held)
+
+pub ruleset fitting = (cuts_meet, cuts_pass, cuts_nodes, cuts_owns, cuts_room, cuts_parts)

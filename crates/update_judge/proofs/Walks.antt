@@ -19,6 +19,9 @@ use Rattle.tree.specs.Handed.{places_from, cut_at, cut_of, Cutting}
 use Rattle.climb.proofs.Lists.{or_false_is}
 use Rattle.update.specs.Records.{astray}
 use Rattle.update_judge.specs.Inner.Cuts.{cuts_from, meeting, leaving, coming, judge_cuts}
+use Rattle.refusal.proofs.Distinct.{handed_number}
+use Rattle.table.proofs.Steps.{or_stops}
+use Rattle.update_place.proofs.Laying.{cuts_front}
 
 -- ---- one place more, and none left
 
@@ -143,3 +146,15 @@ cutted t ns n places l few each = record {
       let e : 0 + j ≡ j = omega arith in
       each j z ∙ ap (cut_of t ns) (sym (places_at 0 n places j z ∙ ap (point_at places) e));
 }
+
+-- ---- what each loop is proved by
+
+pub ruleset straying = (astray_at, astray_end, places_front)
+
+pub ruleset meetings = (meeting_at, meeting_end, cuts_front)
+
+pub ruleset leavings = (leaving_at, leaving_end, cuts_front)
+
+pub ruleset comings = (coming_at, coming_end, cuts_front)
+
+pub ruleset judgings = (handed_number, or_stops, judge_cuts_at, judge_cuts_end, coming_at, cuts_front)

@@ -29,3 +29,6 @@ module _ (cs : Cuts) (new ns : List ℕ) where
 
   pub spliced_there : (rest e : List ℕ) (n : ℕ) → n ≡ length (spliced_by cs new (take (length ns) ns)) → e ≡ spliced_by cs new (take (length ns) ns) ++ rest → take n e ≡ spliced_by cs new ns
   spliced_there rest e n h g = ap (take n) g ∙ take_at (spliced_by cs new (take (length ns) ns)) rest n (sym h) ∙ whole
+
+-- what the test for 21 is proved by
+pub ruleset waiving = (without_nine, held_productions)

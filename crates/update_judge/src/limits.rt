@@ -38,7 +38,7 @@ fn behind(point: Point) -> usize
 }
 
 // Whether the record's points don't rise, lie outside the tree or in one another's parts.
-#[tactic(auto, using(crate::proofs::Walks::astray_at, crate::proofs::Walks::astray_end, crate::proofs::Walks::places_front))]
+#[tactic(auto, using(crate::proofs::Walks::straying))]
 fn is_astray(record: Record) -> bool
     requires { Numbers «record» }
     ensures { result ≡ astray «record».nodes 0 (points_of «record») }

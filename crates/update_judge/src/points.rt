@@ -14,12 +14,12 @@ ghost use Rattle.refusal.specs.Orders.{refusal_by};
 
 use crate::trees::part_of;
 use refusal::Refusal;
-use table::left_of;
+use table::{WORDS, left_of};
 use tree::{Cut, Cuts, Places, Point, judge_nodes};
 use update::{Record, is_open};
 
 // 10, 22.
-#[tactic(auto, using(crate::proofs::Rows::asked_open, crate::proofs::Rows::asked_none, crate::proofs::Rows::asked_many, crate::proofs::Rows::asked_some))]
+#[tactic(auto, using(crate::proofs::Rows::asking))]
 pub fn judge_asked(record: Record, points: Places) -> Result<(), Refusal>
     ensures { verdict_of result ≡ refusal_by (asked_order «record» (bare_row (named_points points))) }
 {
@@ -43,7 +43,7 @@ fn is_missing(points: Places, nodes: usize) -> bool
 }
 
 // What a replacement is refused by where a tree that is held is sound, before its subtrees are counted: 10, 22, 16, 9.
-#[tactic(auto, using(refusal::proofs::Distinct::handed_number, crate::proofs::Outlines::missing_named, crate::proofs::Rows::asked_few, crate::proofs::Rows::named_absent, crate::proofs::Rows::named_missing, crate::proofs::Rows::named_sound, crate::proofs::Rows::named_stopped))]
+#[tactic(auto, using(crate::proofs::Rows::naming))]
 pub fn judge_named(record: Record, points: Places) -> Result<(), Refusal>
     ensures { verdict_of result ≡ refusal_by (named_order «record» (bare_row (named_points points))) }
 {
@@ -58,7 +58,7 @@ pub fn judge_named(record: Record, points: Places) -> Result<(), Refusal>
 }
 
 // A point's cut: its subtree is counted.
-fn cut_of(table: &[u64; 2657], tree: &[u8], point: Point) -> Cut
+fn cut_of(table: &[u64; WORDS], tree: &[u8], point: Point) -> Cut
     requires limits { Limits table.now }
     requires numbered { Numbered table.now tree.now }
     requires node_in_bounds { point.node < length tree.now }
@@ -73,7 +73,7 @@ fn cut_of(table: &[u64; 2657], tree: &[u8], point: Point) -> Cut
 }
 
 // The cuts of all the points.
-pub fn cuts_of(table: &[u64; 2657], tree: &[u8], points: Places) -> Cuts
+pub fn cuts_of(table: &[u64; WORDS], tree: &[u8], points: Places) -> Cuts
     requires limits { Limits table.now }
     requires numbered { Numbered table.now tree.now }
     requires tree_len_bound { (length tree.now ≤ nodes_most) × (points.count ≤ 8) × (missing (length tree.now) (bare_row (named_points points)) ≡ false) }
@@ -84,7 +84,7 @@ pub fn cuts_of(table: &[u64; 2657], tree: &[u8], points: Places) -> Cuts
         old: 0,
         count: 0,
     };
-    let mut cuts = [none; 8];
+    let mut cuts = [none; Record::POINTS];
     for (i, point) in points.points[..points.count].iter().enumerate() {
         cuts[i] = cut_of(table, tree, *point);
     }
@@ -95,7 +95,7 @@ pub fn cuts_of(table: &[u64; 2657], tree: &[u8], points: Places) -> Cuts
 }
 
 // 23: whether a point lies before another that is named before it, or inside its old part.
-#[tactic(auto, using(crate::proofs::Walks::meeting_at, crate::proofs::Walks::meeting_end, update_place::proofs::Laying::cuts_front))]
+#[tactic(auto, using(crate::proofs::Walks::meetings))]
 fn is_meeting(cuts: Cuts) -> bool
     requires { Small nodes_most cuts }
     ensures { result ≡ meeting 0 (named_cuts cuts) }
@@ -111,7 +111,7 @@ fn is_meeting(cuts: Cuts) -> bool
 }
 
 // How many nodes make way.
-#[tactic(auto, using(crate::proofs::Walks::leaving_at, crate::proofs::Walks::leaving_end, update_place::proofs::Laying::cuts_front))]
+#[tactic(auto, using(crate::proofs::Walks::leavings))]
 fn count_leaving(cuts: Cuts) -> usize
     requires { Small nodes_most cuts }
     ensures { result ≡ leaving (named_cuts cuts) }
@@ -127,7 +127,7 @@ fn count_leaving(cuts: Cuts) -> usize
 const TOO_MANY: usize = Record::NODES + 1;
 
 // How many nodes come. Above 512 it says 513, since a caller may announce more than any number holds.
-#[tactic(auto, using(crate::proofs::Walks::coming_at, crate::proofs::Walks::coming_end, update_place::proofs::Laying::cuts_front))]
+#[tactic(auto, using(crate::proofs::Walks::comings))]
 fn count_coming(cuts: Cuts) -> usize
     requires { Small nodes_most cuts }
     ensures { result ≡ min 513 (coming (named_cuts cuts)) }
@@ -154,7 +154,7 @@ fn is_passing(nodes: usize, cuts: Cuts) -> bool
 
 // The part of one cut, which begins at `at`: its root is to have the symbol of the node that it replaces.
 fn judge_cut(
-    table: &[u64; 2657],
+    table: &[u64; WORDS],
     tree: &[u8],
     cut: Cut,
     new: &[u8],
@@ -171,8 +171,8 @@ fn judge_cut(
 }
 
 // The parts in their order.
-#[tactic(auto, using(refusal::proofs::Distinct::handed_number, table::proofs::Steps::or_stops, crate::proofs::Walks::judge_cuts_at, crate::proofs::Walks::judge_cuts_end, crate::proofs::Walks::coming_at, update_place::proofs::Laying::cuts_front))]
-fn judge_parts(table: &[u64; 2657], tree: &[u8], cuts: Cuts, new: &[u8]) -> Result<(), Refusal>
+#[tactic(auto, using(crate::proofs::Walks::judgings))]
+fn judge_parts(table: &[u64; WORDS], tree: &[u8], cuts: Cuts, new: &[u8]) -> Result<(), Refusal>
     requires limits { Limits table.now }
     requires numbered { Numbered table.now tree.now }
     requires small { Small (length tree.now) cuts }
@@ -189,9 +189,9 @@ fn judge_parts(table: &[u64; 2657], tree: &[u8], cuts: Cuts, new: &[u8]) -> Resu
 
 // What a replacement is refused by where its points are nodes of a sound tree: 23, 8, the parts' 6/7. Where nodes or own sets are missing or left over it is 7 as
 // the first part's number.
-#[tactic(auto, using(crate::proofs::Rows::cuts_meet, crate::proofs::Rows::cuts_pass, crate::proofs::Rows::cuts_nodes, crate::proofs::Rows::cuts_owns, crate::proofs::Rows::cuts_room, crate::proofs::Rows::cuts_parts))]
+#[tactic(auto, using(crate::proofs::Rows::fitting))]
 pub fn judge_row(
-    table: &[u64; 2657],
+    table: &[u64; WORDS],
     tree: &[u8],
     points: Places,
     cuts: Cuts,

@@ -10,6 +10,7 @@ ghost use Rattle.refusal.specs.Orders.{refusal_by};
 use crate::limits::is_beyond;
 use crate::points::judge_asked;
 use refusal::Refusal;
+use table::WORDS;
 use table_judge::judge_table;
 use tree::{Places, judge_held, judge_nodes};
 use update::{Record, is_open};
@@ -28,7 +29,7 @@ fn is_short(held: &[u8], held_owns: &[u64], sets: &[u64], earlier: &[u64]) -> bo
 // What every call is refused by first: 15, 1 to 5, 11.
 #[tactic(auto, using(refusal::proofs::Distinct::handed_number, table::proofs::Steps::or_stops), unfolding(refusal::specs::Orders::refusal_by))]
 pub fn judge_ground(
-    table: &[u64; 2657],
+    table: &[u64; WORDS],
     record: Record,
     held: &[u8],
     held_owns: &[u64],
@@ -48,9 +49,9 @@ pub fn judge_ground(
 }
 
 // What a load is refused by behind that: 10, 8, 6/7.
-#[tactic(auto, using(table::proofs::Limits::limits, crate::proofs::Orders::load_size, crate::proofs::Orders::load_unequal, crate::proofs::Orders::load_judged), unfolding(refusal::specs::Orders::refusal_by))]
+#[tactic(auto, using(crate::proofs::Orders::loading), unfolding(refusal::specs::Orders::refusal_by))]
 pub fn judge_load(
-    table: &[u64; 2657],
+    table: &[u64; WORDS],
     record: Record,
     productions: &[u8],
     owns: &[u64],
@@ -71,9 +72,9 @@ pub fn judge_load(
 }
 
 // 16, and the held tree's 6/7.
-#[tactic(auto, using(crate::proofs::Orders::held_absent, crate::proofs::Orders::held_last))]
+#[tactic(auto, using(crate::proofs::Orders::holding))]
 pub fn judge_holding(
-    table: &[u64; 2657],
+    table: &[u64; WORDS],
     record: Record,
     held: &[u8],
     held_owns: &[u64],
@@ -89,9 +90,9 @@ pub fn judge_holding(
 }
 
 // What a look at the held tree is refused by: what every call is first, then 10, 16, the tree's 6/7.
-#[tactic(auto, using(refusal::proofs::Distinct::handed_number, crate::proofs::Orders::ground_table, crate::proofs::Orders::ground_nodes, crate::proofs::Orders::look_busy, crate::proofs::Orders::look_held, crate::proofs::Orders::look_stopped))]
+#[tactic(auto, using(crate::proofs::Orders::looking))]
 pub fn judge_look(
-    table: &[u64; 2657],
+    table: &[u64; WORDS],
     record: Record,
     held: &[u8],
     held_owns: &[u64],
@@ -108,9 +109,9 @@ pub fn judge_look(
 }
 
 // What a replacement is refused by before its points are looked at: 15, 1 to 5, 11, 10, 22, 16, the held tree's 6/7.
-#[tactic(auto, using(refusal::proofs::Distinct::handed_number, crate::proofs::Orders::ground_table, crate::proofs::Orders::ground_nodes, crate::proofs::Rows::aim_ground, crate::proofs::Rows::aim_asked, crate::proofs::Rows::aim_held))]
+#[tactic(auto, using(crate::proofs::Rows::aiming))]
 pub fn judge_aim(
-    table: &[u64; 2657],
+    table: &[u64; WORDS],
     record: Record,
     points: Places,
     held: &[u8],
@@ -126,9 +127,9 @@ pub fn judge_aim(
 }
 
 // 16, the held tree's 6/7, 17.
-#[tactic(auto, using(refusal::proofs::Distinct::handed_number, refusal::proofs::Orders::stopped, crate::proofs::Orders::going_on, crate::proofs::Orders::going_idle, crate::proofs::Orders::going_stopped))]
+#[tactic(auto, using(crate::proofs::Orders::idling))]
 fn judge_going(
-    table: &[u64; 2657],
+    table: &[u64; WORDS],
     record: Record,
     held: &[u8],
     held_owns: &[u64],
@@ -145,9 +146,9 @@ fn judge_going(
 }
 
 // What a step and a run are refused by: what every call is first, then 16, the tree's 6/7, 17.
-#[tactic(auto, using(refusal::proofs::Distinct::handed_number, crate::proofs::Orders::ground_table, crate::proofs::Orders::ground_nodes, crate::proofs::Orders::step_going, crate::proofs::Orders::step_ground))]
+#[tactic(auto, using(crate::proofs::Orders::stepping))]
 pub fn judge_step(
-    table: &[u64; 2657],
+    table: &[u64; WORDS],
     record: Record,
     held: &[u8],
     held_owns: &[u64],

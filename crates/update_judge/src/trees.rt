@@ -6,11 +6,11 @@ ghost use Rattle.tree.specs.Numbered.{Numbered};
 ghost use Rattle.wire.specs.Instances.{declared};
 ghost use Rattle.tree.specs.Tree.{nodes_most};
 
-use table::{child_count, has_set, left_of};
+use table::{WORDS, child_count, has_set, left_of};
 
 // Whether an instance is declared in the tree of the first `nodes` nodes.
-#[tactic(auto, using(update_place::proofs::Slots::node_of_table, crate::proofs::Parts::symbol_below), unfolding(wire::specs::Instances::declared))]
-pub fn is_declared(table: &[u64; 2657], held: &[u8], nodes: usize, instance: usize) -> bool
+#[tactic(auto, using(crate::proofs::Parts::declaring), unfolding(wire::specs::Instances::declared))]
+pub fn is_declared(table: &[u64; WORDS], held: &[u8], nodes: usize, instance: usize) -> bool
     requires limits { Limits table.now }
     requires numbered { Numbered table.now (take nodes held.now) }
     requires nodes_in_bounds { nodes ≤ length held.now }
@@ -21,8 +21,8 @@ pub fn is_declared(table: &[u64; 2657], held: &[u8], nodes: usize, instance: usi
 }
 
 // How many nodes the subtree at `point` has: from node to node, with the count of subtrees still to come.
-#[tactic(auto, using(crate::proofs::Parts::rest_all, crate::proofs::Parts::size_at, crate::proofs::Parts::size_done, crate::proofs::Parts::size_end, crate::proofs::Parts::number_at, crate::proofs::Parts::arity_at), unfolding(tree::specs::Replace::part))]
-pub fn part_of(table: &[u64; 2657], tree: &[u8], point: usize) -> usize
+#[tactic(auto, using(crate::proofs::Parts::counting), unfolding(tree::specs::Replace::part))]
+pub fn part_of(table: &[u64; WORDS], tree: &[u8], point: usize) -> usize
     requires limits { Limits table.now }
     requires numbered { Numbered table.now tree.now }
     requires point_in_bounds { (point < length tree.now) × (length tree.now ≤ nodes_most) }

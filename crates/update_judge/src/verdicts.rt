@@ -12,13 +12,14 @@ use crate::points::judge_row;
 use crate::refuse::judge_load;
 use crate::waivers::{waives_then, waives_tree};
 use refusal::Refusal;
+use table::WORDS;
 use tree::{Cuts, Places};
 use update::Record;
 
 // What a load is refused by behind what comes first in every call: 10, 8, 6/7, 21.
-#[tactic(auto, using(refusal::proofs::Distinct::handed_number, crate::proofs::Last::load_refused, crate::proofs::Last::load_waived, crate::proofs::Last::load_free))]
+#[tactic(auto, using(crate::proofs::Last::loaded))]
 pub fn judge_loaded(
-    table: &[u64; 2657],
+    table: &[u64; WORDS],
     record: Record,
     productions: &[u8],
     owns: &[u64],
@@ -34,9 +35,9 @@ pub fn judge_loaded(
 }
 
 // And a replacement at nodes of a sound tree, by its points, its parts and the tree that it would leave: 23, 8, 6/7, 21.
-#[tactic(auto, using(refusal::proofs::Distinct::handed_number, crate::proofs::Last::row_refused, crate::proofs::Last::row_waived, crate::proofs::Last::row_free))]
+#[tactic(auto, using(crate::proofs::Last::replaced))]
 pub fn judge_replaced(
-    table: &[u64; 2657],
+    table: &[u64; WORDS],
     tree: &[u8],
     points: Places,
     cuts: Cuts,

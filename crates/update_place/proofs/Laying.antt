@@ -372,3 +372,6 @@ module _ {sets : List ℕ} {n : ℕ} (cuts : List Cut) {whole d : List ℕ} {at 
     pub carry_end_at : (b₁ : List ℕ) → b₁ ≡ paste b to (drop (8 * at) sets) (8 * (n - at))
         → paste b₁ (to + 8 * (n - at)) (replicate (length b₁ - (to + 8 * (n - at))) 0) (length b₁ - (to + 8 * (n - at))) ≡ filled_with 0 whole d
     carry_end_at b₁ e = carry_end sets n whole d at to b hn none_carried b₁ e
+
+-- what splicing is proved by
+pub ruleset splicings = (turn_at, tail_at)

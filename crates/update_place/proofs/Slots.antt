@@ -199,3 +199,6 @@ node_of_table t ns i l n h =
     let p = n.below i h in
     let s : left_of t (get_or ns i 0) < symbol_count t = l.small (get_or ns i 0) 0 p (omega arith) in
     record { production = omega (arith, l.productions); symbol = omega (arith, l.symbols); synthesized = l.synthesized (left_of t (get_or ns i 0)) s; inherited = l.inherited (left_of t (get_or ns i 0)) s }
+
+-- what clearing is proved by
+pub ruleset clearing = (cleared_none, cleared_next)

@@ -12,7 +12,7 @@ ghost use Rattle.circles.specs.Marks.{slots_most};
 ghost use Rattle.tree.specs.Tree.{nodes_most};
 
 use crate::copying::{clear, copy, write};
-use table::{SETS_EACH, inherited_of, left_of, synthesized_of};
+use table::{SETS_EACH, WORDS, inherited_of, left_of, synthesized_of};
 use tree::{Cuts, NODES, Places};
 
 // `new`, be it nodes or sets, and zeros behind.
@@ -52,7 +52,7 @@ pub fn place_tree(
 
 // The nodes of the tree as it would be, or their own sets, front to back: what stays up to the next point, then its part; zeros behind. Gives their count.
 // A tree on the way from one point to the next might not fit, so no part is placed in `held` itself.
-#[tactic(auto, using(crate::proofs::Laying::turn_at, crate::proofs::Laying::tail_at))]
+#[tactic(auto, using(crate::proofs::Laying::splicings))]
 pub fn splice<T: Copy>(
     held: &[T],
     nodes: usize,
@@ -112,7 +112,7 @@ fn carry_sets(sets: &[u64], nodes: usize, cuts: Cuts, out: &mut [u64])
 
 // Empties the undeclared slots of one node: its synthesized sets stand from 0 on, its inherited ones from 4 on.
 #[tactic(auto, using(crate::proofs::Slots::node_of_table))]
-fn clear_node(table: &[u64; 2657], nodes: &[u8], at: usize, sets: &mut [u64])
+fn clear_node(table: &[u64; WORDS], nodes: &[u8], at: usize, sets: &mut [u64])
     requires limits { Limits table.now }
     requires numbered { Numbered table.now nodes.now }
     requires at_in_bounds { at < length nodes.now }
@@ -128,8 +128,8 @@ fn clear_node(table: &[u64; 2657], nodes: &[u8], at: usize, sets: &mut [u64])
 }
 
 // Empties the undeclared slots of every node.
-#[tactic(auto, using(crate::proofs::Slots::cleared_none, crate::proofs::Slots::cleared_next))]
-fn clear_undeclared(table: &[u64; 2657], nodes: &[u8], sets: &mut [u64])
+#[tactic(auto, using(crate::proofs::Slots::clearing))]
+fn clear_undeclared(table: &[u64; WORDS], nodes: &[u8], sets: &mut [u64])
     requires limits { Limits table.now }
     requires numbered { Numbered table.now nodes.now }
     requires nodes_in_bounds { 8 * length nodes.now ≤ length sets.old }
@@ -157,7 +157,7 @@ fn place<T: Copy>(nodes: usize, cuts: Cuts, new: &[T], zero: T, held: &mut [T]) 
 
 // The attribute sets of the new tree: `nodes` is the count of the tree as it was.
 fn arrange_sets(
-    table: &[u64; 2657],
+    table: &[u64; WORDS],
     tree: &[u8],
     nodes: usize,
     cuts: Cuts,
@@ -178,7 +178,7 @@ fn arrange_sets(
 // Each point's subtree makes way for its new part, all in one go: the memory of `replaced_row`. Gives the new tree's count.
 // The values are arranged in `before`, whose old contents are given up, so that no second array is needed.
 pub fn place_row(
-    table: &[u64; 2657],
+    table: &[u64; WORDS],
     nodes: usize,
     points: Places,
     cuts: Cuts,
