@@ -1,6 +1,6 @@
 -- How a walk over a subtree goes on from its node, and one over a row from child to child. Assumes nothing.
 use Rattle.std.proofs.Common.{Result, Ok, Err}
-use Rattle.core.specs.Result.{IsErrAnd}
+use Rattle.std.specs.Prelude.{IsErrAnd}
 use Prim.Native.Nat.{ℕ, suc, ◌+◌, ◌-◌, ◌≤◌, ◌<◌}
 use mathlib.Core.Path.{◌≡◌, refl, subst, sym, ◌∙◌}
 use mathlib.Core.List.{List, [], ◌∷◌, ◌++◌}
