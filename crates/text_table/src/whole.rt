@@ -5,9 +5,9 @@ ghost use Rattle.text_table.specs.Reading.{reading_at, Ends};
 ghost use Rattle.text_table.specs.Calls.{ReadTableSays};
 ghost use Rattle.table.specs.Words.{table_words};
 
+use crate::ReadTable;
 use crate::read::take_frame;
 use crate::write::is_on;
-use crate::ReadTable;
 use refusal::Refusal;
 use table::WORDS;
 use text_frame::{Expected, Misread, next_at};
@@ -47,11 +47,7 @@ fn copy_words(words: &[u64; 2657], table: &mut [u64])
     requires { (length words.now ≡ table_words) × (table_words ≤ length table.old) }
     ensures { table.new ≡ paste table.old 0 words.now table_words }
 {
-    let mut i: usize = 0;
-    while i < WORDS {
-        table[i] = words[i];
-        i += 1;
-    }
+    table[..WORDS].copy_from_slice(words);
 }
 
 // Reads a table at a place of a text into lent memory: 13, 14 and 1 to 5 frame by frame, then 15; where it is refused nothing is written.
@@ -63,12 +59,12 @@ pub fn read_table(
 ) -> Result<ReadTable, Misread>
     ensures { ReadTableSays text.now place line table.old result table.new }
 {
-    let mut words = [0u64; 2657];
+    let mut words = [0u64; WORDS];
     let read = read_words(text, place, line, &mut words)?;
     if table.len() < WORDS {
         return Err(Misread {
             refusal: Refusal::Buffer,
-            line: line,
+            line,
         });
     }
     copy_words(&words, table);
