@@ -5,6 +5,7 @@ ghost use Rattle.text_frame.specs.Frames.{wrong_length, child_at, production_of,
 ghost use Rattle.text_frame.specs.Calls.{FrameAtSays};
 ghost use Rattle.text_frame.specs.declared.Frame.TheVariants as kind;
 ghost use Rattle.text_frame.specs.declared.Rule.TheVariants.{Header, Symbol, Equation};
+ghost use Rattle.text_frame.specs.declared.Change.TheVariants.{Load, Replace, Corrections};
 
 use crate::{Change, Children, Frame, Rule, Step};
 use refusal::Refusal;
@@ -112,6 +113,54 @@ fn equation(text: &[u8], place: usize) -> Frame
     })
 }
 
+fn node(text: &[u8], place: usize) -> Frame
+    requires { place + 28 < 2 ^ 64 }
+    ensures { result ≡ kind.Node (num_at 2 text.now (place + 2)) (num_at 16 text.now (place + 4)) }
+{
+    Frame::Node {
+        production: byte(text, place + 2),
+        own: text_line::number(text, place + 4, 16),
+    }
+}
+
+fn load(text: &[u8], place: usize) -> Frame
+    requires { place + 28 < 2 ^ 64 }
+    ensures { result ≡ kind.Change (Load (num_at 4 text.now (place + 2))) }
+{
+    Frame::Change(Change::Load {
+        count: pair(text, place + 2),
+    })
+}
+
+fn replace(text: &[u8], place: usize) -> Frame
+    requires { place + 28 < 2 ^ 64 }
+    ensures { result ≡ kind.Change (Replace (num_at 4 text.now (place + 2)) (num_at 4 text.now (place + 6))) }
+{
+    Frame::Change(Change::Replace {
+        point: pair(text, place + 2),
+        count: pair(text, place + 6),
+    })
+}
+
+fn corrections(text: &[u8], place: usize) -> Frame
+    requires { place + 28 < 2 ^ 64 }
+    ensures { result ≡ kind.Change (Corrections (num_at 2 text.now (place + 2))) }
+{
+    Frame::Change(Change::Corrections {
+        count: byte(text, place + 2),
+    })
+}
+
+fn point(text: &[u8], place: usize) -> Frame
+    requires { place + 28 < 2 ^ 64 }
+    ensures { result ≡ kind.Point (num_at 4 text.now (place + 2)) (num_at 4 text.now (place + 6)) }
+{
+    Frame::Point {
+        point: pair(text, place + 2),
+        count: pair(text, place + 6),
+    }
+}
+
 // 17.1: the frame that n digits make, by its type and how many digits this asks for; else refusal 14.
 #[tactic(auto, unfolding(crate::specs::Frames::frame_of, crate::specs::Frames::kind_of, crate::specs::Frames::header_of, crate::specs::Frames::symbol_of, crate::specs::Frames::production_of, crate::specs::Frames::equation_of, crate::specs::Frames::node_of, crate::specs::Frames::load_of, crate::specs::Frames::replace_of, crate::specs::Frames::dump_of, crate::specs::Frames::corrections_of, crate::specs::Frames::correction_of))]
 fn frame_of(text: &[u8], place: usize, n: usize, line: u32) -> Frame
@@ -123,25 +172,12 @@ fn frame_of(text: &[u8], place: usize, n: usize, line: u32) -> Frame
         (2, 6) => symbol(text, place),
         (3, _) => production(text, place, n, line),
         (4, 28) => equation(text, place),
-        (5, 20) => Frame::Node {
-            production: byte(text, place + 2),
-            own: text_line::number(text, place + 4, 16),
-        },
-        (6, 6) => Frame::Change(Change::Load {
-            count: pair(text, place + 2),
-        }),
-        (7, 10) => Frame::Change(Change::Replace {
-            point: pair(text, place + 2),
-            count: pair(text, place + 6),
-        }),
+        (5, 20) => node(text, place),
+        (6, 6) => load(text, place),
+        (7, 10) => replace(text, place),
         (8, 2) => Frame::Dump,
-        (9, 4) => Frame::Change(Change::Corrections {
-            count: byte(text, place + 2),
-        }),
-        (11, 10) => Frame::Point {
-            point: pair(text, place + 2),
-            count: pair(text, place + 6),
-        },
+        (9, 4) => corrections(text, place),
+        (11, 10) => point(text, place),
         _ => wrong(line),
     }
 }

@@ -33,7 +33,7 @@ use Rattle.text_frame.specs.declared.Expected.{Expected}
 use Rattle.text_frame.specs.declared.Expected.TheVariants.{AtHeader, AtSymbol, AtProduction, AtEquation, Ended}
 use Rattle.text_frame.specs.Calls.{misread}
 use Rattle.refusal.proofs.Distinct.{number_low}
-use Rattle.text_tree.proofs.Numbers.{by_number}
+use Rattle.text_tree.proofs.Numbers.{by_number, Named}
 use Rattle.text_frame.proofs.Exactly.{rule_type_lem, change_type_lem}
 use Rattle.text_frame.specs.contracts.Rule as R
 
@@ -135,24 +135,37 @@ module _ (t : List ℕ) (x : Expected) (f : Frame) (line : ℕ) where
   unfolding taken_at
   stopped_taken u r e d n = rw (e, ← d, ← n) (stopped_by r (next_of u x) line)
 
+-- a rule of the expected type is stored, and leaves these words
+pub record Stored (t : List ℕ) (x : Expected) (r : rule.Rule) (u : List ℕ) : Type 0 where
+  pub type : eqb (type_of (Rule r)) (type_at x) ≡ true
+  pub words : u ≡ words_after t x (Rule r)
+
+module _ {t u : List ℕ} {x : Expected} {r : rule.Rule} (line : ℕ) (k : Stored t x r u) where
+  pub sound_rule : refusal_at u (entry_of x) ≡ 0 → {y : Expected} → y ≡ next_of u x → (Ok y ≡ taken_at t x (Rule r) line) × (u ≡ words_after t x (Rule r))
+  sound_rule z e = (ap Ok e ∙ sound_taken t x (Rule r) line u k.type k.words z, k.words)
+
+  pub refused_rule : {m : Misread} → Named (refusal_at u (entry_of x)) line m → (Err m ≡ taken_at t x (Rule r) line) × (u ≡ words_after t x (Rule r))
+  refused_rule n = (ap Err n.is ∙ stopped_taken t x (Rule r) line u n.refusal k.type k.words n.by, k.words)
+
 -- the words that are stored
-pub header_words : (t : List ℕ) (a b v : ℕ) → v ≡ (0 * 256 + a) * 256 + b → set t 0 v ≡ words_after t AtHeader (Rule (Header a b))
+pub header_stored : (t : List ℕ) {r : rule.Rule} (a b : ℕ) {v : ℕ} → r ≡ Header a b → v ≡ (0 * 256 + a) * 256 + b → Stored t AtHeader r (set t 0 v)
 unfolding words_after word_of constant_of
-header_words t a b v e = ap (set t 0) (omega arith)
+header_stored t a b d e = rw d (record { type = refl; words = ap (set t 0) (omega arith) })
 
-pub symbol_words : (t : List ℕ) (s a b v : ℕ) → v ≡ (0 * 256 + a) * 256 + b → set t (1 + s) v ≡ words_after t (AtSymbol s) (Rule (Symbol a b))
+pub symbol_stored : (t : List ℕ) (s : ℕ) {r : rule.Rule} (a b : ℕ) {v : ℕ} → r ≡ Symbol a b → v ≡ (0 * 256 + a) * 256 + b → Stored t (AtSymbol s) r (set t (1 + s) v)
 unfolding words_after word_of constant_of
-symbol_words t s a b v e = ap (set t (1 + s)) (omega arith)
+symbol_stored t s a b d e = rw d (record { type = refl; words = ap (set t (1 + s)) (omega arith) })
 
-pub production_words : (t : List ℕ) (p l n : ℕ) (cs : Children) (x y v : ℕ) → x ≡ (0 * 256 + l) * 256 + n → y ≡ (x * 256 + cs.one) * 256 + cs.two → v ≡ (y * 256 + cs.three) * 256 + cs.four
-    → set t (33 + p) v ≡ words_after t (AtProduction p) (Rule (Production l n cs))
+pub production_stored : (t : List ℕ) (p : ℕ) {r : rule.Rule} (l n : ℕ) (cs : Children) {x y v : ℕ} → r ≡ Production l n cs
+    → x ≡ (0 * 256 + l) * 256 + n → y ≡ (x * 256 + cs.one) * 256 + cs.two → v ≡ (y * 256 + cs.three) * 256 + cs.four → Stored t (AtProduction p) r (set t (33 + p) v)
 unfolding words_after word_of constant_of
-production_words t p l n cs x y v d e f = ap (set t (33 + p)) (omega arith)
+production_stored t p l n cs d e f g = rw d (record { type = refl; words = ap (set t (33 + p)) (omega arith) })
 
-pub equation_words : (t : List ℕ) (p q k op : ℕ) (a b : Argument) (c o x v : ℕ) → o ≡ op → x ≡ (o * 256 + a.position) * 256 + a.index → v ≡ (x * 256 + b.position) * 256 + b.index
-    → set (set t (97 + 2 * (20 * p + (4 * q + k))) v) (98 + 2 * (20 * p + (4 * q + k))) c ≡ words_after t (AtEquation p q k) (Rule (Equation op a b c))
+pub equation_stored : (t : List ℕ) (p q k : ℕ) {r : rule.Rule} (op : ℕ) (a b : Argument) (c : ℕ) {o x v : ℕ} → r ≡ Equation op a b c
+    → o ≡ op → x ≡ (o * 256 + a.position) * 256 + a.index → v ≡ (x * 256 + b.position) * 256 + b.index
+    → Stored t (AtEquation p q k) r (set (set t (97 + 2 * (20 * p + (4 * q + k))) v) (98 + 2 * (20 * p + (4 * q + k))) c)
 unfolding words_after word_of constant_of
-equation_words t p q k op a b c o x v d e f = ap (λ (w : ℕ). set (set t (97 + 2 * (20 * p + (4 * q + k))) w) (98 + 2 * (20 * p + (4 * q + k))) c) (omega arith)
+equation_stored t p q k op a b c d e f g = rw d (record { type = refl; words = ap (λ (w : ℕ). set (set t (97 + 2 * (20 * p + (4 * q + k))) w) (98 + 2 * (20 * p + (4 * q + k))) c) (omega arith) })
 
 -- a production's word is no symbol's
 pub symbols_kept : (t : List ℕ) (p v : ℕ) → Symbols t → Symbols (set t (33 + p) v)

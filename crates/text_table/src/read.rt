@@ -12,14 +12,13 @@ use refusal::Refusal;
 use table::{CONSTANTS, HEADS, PRODUCTIONS, RULES_EACH, SETS_EACH, SYMBOLS, UPPER};
 use table_judge::{judge_equation, judge_header, judge_production, judge_symbol};
 use text_frame::{Expected, Frame, Misread, Rule, next_of};
-use text_line::wide;
 
 // Two bytes as one number, behind a number.
 fn join(x: u64, a: u8, b: u8) -> u64
     requires { x < 4294967296 }
     ensures { result ≡ (x * 256 + a) * 256 + b }
 {
-    (x * UPPER + wide(a)) * UPPER + wide(b)
+    (x * UPPER + u64::from(a)) * UPPER + u64::from(b)
 }
 
 // A frame that is not the expected one: its own refusal is passed on, else 14.
@@ -27,12 +26,9 @@ fn join(x: u64, a: u8, b: u8) -> u64
 fn strange(frame: Frame, line: u32) -> Misread
     ensures { result ≡ strange_at frame line }
 {
-    let Frame::Refused { refusal, line: own } = frame else {
-        return misplaced(line);
-    };
-    Misread {
-        refusal: refusal,
-        line: own,
+    match frame {
+        Frame::Refused { refusal, line } => Misread { refusal, line },
+        _ => misplaced(line),
     }
 }
 
@@ -42,7 +38,7 @@ fn misplaced(line: u32) -> Misread
 {
     Misread {
         refusal: Refusal::Frame,
-        line: line,
+        line,
     }
 }
 
@@ -124,7 +120,11 @@ fn take_equation(
         return Err(misplaced(line));
     };
     let at = RULES_EACH * p + (SETS_EACH * q + k);
-    table[HEADS + 2 * at] = join(join(wide(op), a.position, a.index), b.position, b.index);
+    table[HEADS + 2 * at] = join(
+        join(u64::from(op), a.position, a.index),
+        b.position,
+        b.index,
+    );
     table[CONSTANTS + 2 * at] = c;
     judge_equation(table, p, q, k).map_err(|refusal| Misread { refusal, line })?;
     Ok(next_of(table, Expected::AtEquation(p, q, k)))

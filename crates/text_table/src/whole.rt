@@ -47,11 +47,7 @@ fn copy_words(words: &[u64; 2657], table: &mut [u64])
     requires { (length words.now ≡ table_words) × (table_words ≤ length table.old) }
     ensures { table.new ≡ paste table.old 0 words.now table_words }
 {
-    let mut i: usize = 0;
-    while i < WORDS {
-        table[i] = words[i];
-        i += 1;
-    }
+    table[..WORDS].copy_from_slice(words);
 }
 
 // Reads a table at a place of a text into lent memory: 13, 14 and 1 to 5 frame by frame, then 15; where it is refused nothing is written.
@@ -63,12 +59,12 @@ pub fn read_table(
 ) -> Result<ReadTable, Misread>
     ensures { ReadTableSays text.now place line table.old result table.new }
 {
-    let mut words = [0u64; 2657];
+    let mut words = [0u64; WORDS];
     let read = read_words(text, place, line, &mut words)?;
     if table.len() < WORDS {
         return Err(Misread {
             refusal: Refusal::Buffer,
-            line: line,
+            line,
         });
     }
     copy_words(&words, table);

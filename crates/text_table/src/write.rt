@@ -22,7 +22,7 @@ const SHORT_LINE: usize = 7;
 const EQUATION_LINE: usize = 29;
 
 // The kind of an equation's line, above the head.
-const EQUATION: u64 = 4_398_046_511_104;
+const EQUATION: u64 = 0x400_0000_0000;
 
 // A production's word without the bytes of children that it has not.
 #[tactic(auto, unfolding(crate::specs::Inner::Putting::reached_of))]
@@ -30,14 +30,15 @@ fn reached(word: u64, count: usize) -> u64
     ensures { result ≡ reached_of word count }
 {
     match count {
-        0 => word / 4294967296,
-        1 => word / 16777216,
-        2 => word / 65536,
-        3 => word / 256,
+        0 => word / 0x1_0000_0000,
+        1 => word / 0x100_0000,
+        2 => word / 0x1_0000,
+        3 => word / 0x100,
         _ => word,
     }
 }
 
+#[tactic(auto, using(crate::proofs::Shown::header_shown))]
 fn put_header(table: &[u64; 2657], buffer: &mut [u8], place: usize) -> usize
     requires { place + 7 ≤ length buffer.old }
     ensures { (result ≡ place + 7) × (buffer.new ≡ sets buffer.old place (text_of (shown table.now header))) }
@@ -45,6 +46,7 @@ fn put_header(table: &[u64; 2657], buffer: &mut [u8], place: usize) -> usize
     text_line::put_line(buffer, place, 2, 1, 4, table[0])
 }
 
+#[tactic(auto, using(crate::proofs::Shown::symbol_shown))]
 fn put_symbol(table: &[u64; 2657], s: usize, buffer: &mut [u8], place: usize) -> usize
     requires { (s < 32) × (place + 7 ≤ length buffer.old) }
     ensures { (result ≡ place + 7) × (buffer.new ≡ sets buffer.old place (text_of (shown table.now (symbol s)))) }
@@ -52,6 +54,7 @@ fn put_symbol(table: &[u64; 2657], s: usize, buffer: &mut [u8], place: usize) ->
     text_line::put_line(buffer, place, 2, 2, 4, table[SYMBOLS + s])
 }
 
+#[tactic(auto, using(crate::proofs::Shown::production_shown))]
 fn put_production(table: &[u64; 2657], p: usize, buffer: &mut [u8], place: usize) -> usize
     requires { (p < 64) × ((child_count table.now p ≤ 4) × (place + (7 + 2 * child_count table.now p) ≤ length buffer.old)) }
     ensures { (result ≡ place + (7 + 2 * child_count table.now p)) × (buffer.new ≡ sets buffer.old place (text_of (shown table.now (production p)))) }
@@ -61,6 +64,7 @@ fn put_production(table: &[u64; 2657], p: usize, buffer: &mut [u8], place: usize
     text_line::put_line(buffer, place, 2, 3, 4 + 2 * count, tail)
 }
 
+#[tactic(auto, using(crate::proofs::Shown::equation_shown), unfolding(table::specs::Equations::op_number))]
 fn put_equation(table: &[u64; 2657], rule: usize, buffer: &mut [u8], place: usize) -> usize
     requires { (rule < 1280) × ((op_number (head_at table.now rule) ≤ 9) × (place + 29 ≤ length buffer.old)) }
     ensures { (result ≡ place + 29) × (buffer.new ≡ sets buffer.old place (equation_text table.now rule)) }
@@ -70,6 +74,7 @@ fn put_equation(table: &[u64; 2657], rule: usize, buffer: &mut [u8], place: usiz
 }
 
 // Writes the frame that is expected, and says where the next one goes.
+#[tactic(auto, using(crate::proofs::Writing::header_length, crate::proofs::Writing::symbol_length, crate::proofs::Writing::production_length, crate::proofs::Writing::equation_length), unfolding(crate::specs::Inner::Putting::text_at, crate::specs::Inner::Putting::equation_text, crate::specs::Text::shown, table::specs::Words::rule_of))]
 fn put_frame(table: &[u64; 2657], expected: Expected, buffer: &mut [u8], place: usize) -> usize
     requires { Ready table.now expected × (Shows table.now expected × (place + length (text_at table.now expected) ≤ length buffer.old)) }
     ensures { (result ≡ place + length (text_at table.now expected)) × (buffer.new ≡ sets buffer.old place (text_at table.now expected)) }
@@ -89,13 +94,13 @@ fn put_frame(table: &[u64; 2657], expected: Expected, buffer: &mut [u8], place: 
 }
 
 // How long the text of the frame that is expected is.
+#[tactic(auto, using(crate::proofs::Writing::header_length, crate::proofs::Writing::symbol_length, crate::proofs::Writing::production_length, crate::proofs::Writing::equation_length), unfolding(crate::specs::Inner::Putting::text_at))]
 fn length_of(table: &[u64; 2657], expected: Expected) -> usize
     requires { Ready table.now expected }
     ensures { result ≡ length (text_at table.now expected) }
 {
     match expected {
-        Expected::AtHeader => SHORT_LINE,
-        Expected::AtSymbol(_) => SHORT_LINE,
+        Expected::AtHeader | Expected::AtSymbol(_) => SHORT_LINE,
         Expected::AtProduction(p) => SHORT_LINE + 2 * child_count(table, p),
         Expected::AtEquation(_, _, _) => EQUATION_LINE,
         Expected::Ended => 0,
@@ -106,13 +111,7 @@ fn length_of(table: &[u64; 2657], expected: Expected) -> usize
 pub fn is_on(expected: Expected) -> bool
     ensures { result ≡ is_on expected }
 {
-    match expected {
-        Expected::AtHeader => true,
-        Expected::AtSymbol(_) => true,
-        Expected::AtProduction(_) => true,
-        Expected::AtEquation(_, _, _) => true,
-        Expected::Ended => false,
-    }
+    !matches!(expected, Expected::Ended)
 }
 
 // Whether a table's text has room.
@@ -153,7 +152,8 @@ pub fn write_table(table: &[u64; 2657], buffer: &mut [u8]) -> Result<usize, Refu
 {
     judge_table(table)?;
     if has_room(table, buffer.len()) {
-        return Ok(put_table(table, buffer));
+        Ok(put_table(table, buffer))
+    } else {
+        Err(Refusal::Buffer)
     }
-    Err(Refusal::Buffer)
 }

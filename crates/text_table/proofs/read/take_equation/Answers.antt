@@ -1,20 +1,14 @@
 -- Another type stops; the expected one is stored and judged. Assumes nothing.
 use native.Mathlib.Omega.{arith}
-use mathlib.Core.Path.{◌≡◌, ap, ◌∙◌}
-use mathlib.Core.Bool.{true}
-use mathlib.Core.List.{List}
-use Prim.Native.Nat.{ℕ, ◌+◌, ◌*◌}
-use lib.Dec.{eqb}
+use mathlib.Core.Path.{ap, ◌∙◌}
+use Prim.Native.Nat.{◌+◌, ◌*◌}
 use lib.ListN.{set}
-use Rattle.text_frame.specs.Text.{type_of}
-use Rattle.text_table.specs.Read.{type_at, words_after}
 use Rattle.text_frame.specs.declared.Frame.TheVariants.{Rule}
-use Rattle.text_frame.specs.declared.Rule.TheVariants.{Equation}
 use Rattle.text_frame.specs.declared.Expected.TheVariants.{AtEquation}
-use Rattle.std.proofs.Common.{Ok, Err, rules}
+use Rattle.std.proofs.Common.{Err, rules}
 use Rattle.std.proofs.lemmas.Result.{MatchResult-weaker, err_from_is_err_and}
 use Rattle.text_tree.proofs.Numbers.{named, passed}
-use Rattle.text_table.proofs.Taking.{no_equation, other_taken, other_words, sound_taken, stopped_taken, equation_words, low_kept, shaped_kept, count_kept}
+use Rattle.text_table.proofs.Taking.{no_equation, other_taken, other_words, sound_rule, refused_rule, equation_stored, low_kept, shaped_kept, count_kept}
 use Rattle.text_table.proofs.read.take_equation.Goals as goal
 
 pub returns-in_default : goal.returns-in_default
@@ -46,20 +40,12 @@ pub returns : goal.returns
 returns c =
     let a = c.args in
     let g = c.in-Equation in
-    let e : a.rule ≡ Equation g.op g.a g.b g.c = g.is in
-    let u : List ℕ = set (set a.table.now (97 + (2 * (20 * a.p + (4 * a.q + a.k)))) c.join-2.result) (98 + (2 * (20 * a.p + (4 * a.q + a.k)))) g.c in
-    let d : u ≡ words_after a.table.now (AtEquation a.p a.q a.k) (Rule a.rule) = rw e (equation_words a.table.now a.p a.q a.k g.op g.a g.b g.c c.wide.result c.join.result c.join-2.result c.wide.ensures.0 c.join.ensures c.join-2.ensures) in
-    let y : eqb (type_of (Rule a.rule)) (type_at (AtEquation a.p a.q a.k)) ≡ true = rw e in
-    (ap Ok c.next_of.ensures ∙ sound_taken a.table.now (AtEquation a.p a.q a.k) (Rule a.rule) a.line u y d (passed _ c.in_ok-map_err.ensures.variant c.judge_equation.ensures), d)
+    sound_rule a.line (equation_stored a.table.now a.p a.q a.k g.op g.a g.b g.c g.is c.from.ensures c.join.ensures c.join-2.ensures) (passed _ c.in_ok-map_err.ensures.variant c.judge_equation.ensures) c.next_of.ensures
 
 pub returns-in_err-map_err : goal.returns-in_err-map_err
 returns-in_err-map_err c =
     let a = c.args in
     let g = c.in-Equation in
-    let e : a.rule ≡ Equation g.op g.a g.b g.c = g.is in
-    let u : List ℕ = set (set a.table.now (97 + (2 * (20 * a.p + (4 * a.q + a.k)))) c.join-2.result) (98 + (2 * (20 * a.p + (4 * a.q + a.k)))) g.c in
-    let d : u ≡ words_after a.table.now (AtEquation a.p a.q a.k) (Rule a.rule) = rw e (equation_words a.table.now a.p a.q a.k g.op g.a g.b g.c c.wide.result c.join.result c.join-2.result c.wide.ensures.0 c.join.ensures c.join-2.ensures) in
-    let y : eqb (type_of (Rule a.rule)) (type_at (AtEquation a.p a.q a.k)) ≡ true = rw e in
     let p = err_from_is_err_and c.from_residual.result c.from_residual.ensures.1 in
-    let k = named _ {line = a.line} (MatchResult-weaker c.judge_equation.result c.in_err-map_err.ensures.cases (λ x p. p) (λ e p. search rules)) c.judge_equation.ensures in
-    rw (p.1, p.2, k.is) (stopped_taken a.table.now (AtEquation a.p a.q a.k) (Rule a.rule) a.line u k.refusal y d k.by, d)
+    rw (p.1, p.2)
+    (refused_rule a.line (equation_stored a.table.now a.p a.q a.k g.op g.a g.b g.c g.is c.from.ensures c.join.ensures c.join-2.ensures) (named _ (MatchResult-weaker c.judge_equation.result c.in_err-map_err.ensures.cases (λ x p. p) (λ e p. search rules)) c.judge_equation.ensures))

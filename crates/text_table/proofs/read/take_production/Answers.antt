@@ -1,19 +1,11 @@
 -- Another type stops; the expected one is stored and judged. Assumes nothing.
-use mathlib.Core.Path.{◌≡◌, ap, ◌∙◌}
-use mathlib.Core.Bool.{true}
-use mathlib.Core.List.{List}
-use Prim.Native.Nat.{ℕ, ◌+◌}
-use lib.Dec.{eqb}
-use lib.ListN.{set}
-use Rattle.text_frame.specs.Text.{type_of}
-use Rattle.text_table.specs.Read.{type_at, words_after}
+use mathlib.Core.Path.{ap, ◌∙◌}
 use Rattle.text_frame.specs.declared.Frame.TheVariants.{Rule}
-use Rattle.text_frame.specs.declared.Rule.TheVariants.{Production}
 use Rattle.text_frame.specs.declared.Expected.TheVariants.{AtProduction}
-use Rattle.std.proofs.Common.{Ok, Err, rules}
+use Rattle.std.proofs.Common.{Err, rules}
 use Rattle.std.proofs.lemmas.Result.{MatchResult-weaker, err_from_is_err_and}
 use Rattle.text_tree.proofs.Numbers.{named, passed}
-use Rattle.text_table.proofs.Taking.{no_production, other_taken, other_words, sound_taken, stopped_taken, production_words, shaped_now}
+use Rattle.text_table.proofs.Taking.{no_production, other_taken, other_words, sound_rule, refused_rule, production_stored, shaped_now}
 use Rattle.text_table.proofs.read.take_production.Goals as goal
 
 pub returns-in_default : goal.returns-in_default
@@ -29,20 +21,12 @@ pub returns : goal.returns
 returns c =
     let a = c.args in
     let g = c.in-Production in
-    let e : a.rule ≡ Production g.left g.count g.children = g.is in
-    let u : List ℕ = set a.table.now (33 + a.p) c.join-3.result in
-    let d : u ≡ words_after a.table.now (AtProduction a.p) (Rule a.rule) = rw e (production_words a.table.now a.p g.left g.count g.children c.join.result c.join-2.result c.join-3.result c.join.ensures c.join-2.ensures c.join-3.ensures) in
-    let y : eqb (type_of (Rule a.rule)) (type_at (AtProduction a.p)) ≡ true = rw e in
-    (ap Ok c.next_of.ensures ∙ sound_taken a.table.now (AtProduction a.p) (Rule a.rule) a.line u y d (passed _ c.in_ok-map_err.ensures.variant c.judge_production.ensures), d)
+    sound_rule a.line (production_stored a.table.now a.p g.left g.count g.children g.is c.join.ensures c.join-2.ensures c.join-3.ensures) (passed _ c.in_ok-map_err.ensures.variant c.judge_production.ensures) c.next_of.ensures
 
 pub returns-in_err-map_err : goal.returns-in_err-map_err
 returns-in_err-map_err c =
     let a = c.args in
     let g = c.in-Production in
-    let e : a.rule ≡ Production g.left g.count g.children = g.is in
-    let u : List ℕ = set a.table.now (33 + a.p) c.join-3.result in
-    let d : u ≡ words_after a.table.now (AtProduction a.p) (Rule a.rule) = rw e (production_words a.table.now a.p g.left g.count g.children c.join.result c.join-2.result c.join-3.result c.join.ensures c.join-2.ensures c.join-3.ensures) in
-    let y : eqb (type_of (Rule a.rule)) (type_at (AtProduction a.p)) ≡ true = rw e in
     let p = err_from_is_err_and c.from_residual.result c.from_residual.ensures.1 in
-    let k = named _ {line = a.line} (MatchResult-weaker c.judge_production.result c.in_err-map_err.ensures.cases (λ x p. p) (λ e p. search rules)) c.judge_production.ensures in
-    rw (p.1, p.2, k.is) (stopped_taken a.table.now (AtProduction a.p) (Rule a.rule) a.line u k.refusal y d k.by, d)
+    rw (p.1, p.2)
+    (refused_rule a.line (production_stored a.table.now a.p g.left g.count g.children g.is c.join.ensures c.join-2.ensures c.join-3.ensures) (named _ (MatchResult-weaker c.judge_production.result c.in_err-map_err.ensures.cases (λ x p. p) (λ e p. search rules)) c.judge_production.ensures))
