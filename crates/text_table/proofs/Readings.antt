@@ -2,7 +2,7 @@
 use mathlib.Core.Path.{◌≡◌, refl, ap, sym, ◌∙◌}
 use mathlib.Core.Bool.{Bool, true, false, cond}
 use mathlib.Core.List.{List}
-use Rattle.std.proofs.Common.{Result, Ok, Err}
+use Rattle.std.proofs.Common.{Ok, Err}
 use Prim.Native.Nat.{ℕ, zero, suc, ◌+◌, ◌*◌, ◌-◌, ◌≤◌, ◌<◌}
 use native.Mathlib.Omega.{arith}
 use native.Mathlib.Nat.{zero-add}
@@ -16,14 +16,12 @@ use Rattle.text_frame.specs.Frames.{frame_at}
 use Rattle.text_frame.specs.Walk.{is_on}
 use Rattle.text_frame.specs.Text.{type_of}
 use Rattle.text_table.specs.Read.{type_at, word_of, constant_of, store, words_after, taken_at}
-use Rattle.text_table.specs.Reading.{Reading, done, stop, after, read_on, reading_at, table_read, Ends}
+use Rattle.text_table.specs.Reading.{done, stop, after, read_on, reading_at}
 use Rattle.text_frame.specs.declared.Frame.{Frame}
 use Rattle.text_frame.specs.declared.Step.{Step}
 use Rattle.text_frame.specs.declared.Expected.{Expected}
 use Rattle.text_frame.specs.declared.Expected.TheVariants.{AtHeader, AtSymbol, AtProduction, AtEquation, Ended}
 use Rattle.text_frame.specs.Calls.{misread}
-use Rattle.text_frame.specs.declared.Misread.{Misread}
-use Rattle.text_table.specs.declared.ReadTable.{ReadTable}
 
 -- one word of a copy
 pub copy_next : (d s : List ℕ) (i : ℕ) → i < length d → i < length s → set (paste d 0 s i) i (get_or s i 0) ≡ paste d 0 s (i + 1)
@@ -79,23 +77,3 @@ pub read_ends : (n : ℕ) (s t : List ℕ) (x : Expected) (place line : ℕ) →
 unfolding read_on
 read_ends zero s t x place line e = rw e
 read_ends (suc n) s t x place line e = rw e
-
--- what an answer says of a reading
-pub read_done : (a : Reading) (r : Result ReadTable Misread) (w : List ℕ) (place line : ℕ) → Ends a r w → r ≡ Ok (table_read place line) → a ≡ done w place line
-read_done (done t p l) r w place line e h =
-    let q : r ≡ Ok (table_read p l) = e.0 in
-    let d : w ≡ t = e.1 in
-    let k : table_read p l ≡ table_read place line = cc in
-    let u : p ≡ place = ap (λ (x : ReadTable). x.place) k in
-    let v : l ≡ line = ap (λ (x : ReadTable). x.line) k in
-    cc
-read_done (stop f l) r w place line e h = absurd (let z : ◌≡◌ {A = ℕ} 0 1 = cc in omega arith)
-
-pub read_stopped : (a : Reading) (r : Result ReadTable Misread) (w : List ℕ) (f : Refusal) (line : ℕ) → Ends a r w → r ≡ Err (misread f line) → a ≡ stop f line
-read_stopped (done t p l) r w f line e h = absurd (let q : r ≡ Ok (table_read p l) = e.0 in let z : ◌≡◌ {A = ℕ} 0 1 = cc in omega arith)
-read_stopped (stop g l) r w f line e h =
-    let q : r ≡ Err (misread g l) = e in
-    let k : misread g l ≡ misread f line = cc in
-    let u : g ≡ f = ap (λ (x : Misread). x.refusal) k in
-    let v : l ≡ line = ap (λ (x : Misread). x.line) k in
-    cc
