@@ -32,6 +32,7 @@ use Rattle.text_frame.specs.declared.Rule as rule
 use Rattle.text_frame.specs.declared.Expected.{Expected}
 use Rattle.text_frame.specs.declared.Expected.TheVariants.{AtHeader, AtSymbol, AtProduction, AtEquation, Ended}
 use Rattle.text_frame.specs.Calls.{misread}
+use Rattle.text_frame.specs.declared.Misread.{Misread}
 use Rattle.refusal.proofs.Distinct.{number_low}
 use Rattle.text_tree.proofs.Numbers.{by_number, Named}
 use Rattle.text_frame.proofs.Exactly.{rule_type_lem, change_type_lem}
