@@ -9,6 +9,7 @@ ghost use Rattle.session_memory.specs.Suspended.{suspended, Tests};
 ghost use Rattle.session_feed.specs.Feeding.{Feeds, FeedSays};
 ghost use Rattle.session_feed.specs.Inner.Faring.{Ready, Turns};
 ghost use Rattle.session_feed.specs.Running.{silent};
+ghost use Rattle.session_feed.specs.Inner.Kept.{Same, kept_with, memory_of};
 ghost use Rattle.table.specs.Words.{table_words};
 ghost use Rattle.update.specs.Memories.{lent};
 
@@ -20,24 +21,38 @@ use session_memory::{State, copy_in, copy_out, gather, is_narrow, judge_state};
 use session_owed::{Awaited, Told};
 use session_rounds::tell_rounds;
 use table::WORDS;
-use text_frame::{frame_at, line_after};
+use text_frame::{Frame, frame_at, line_after};
 use update::Record;
 
+// The memory that a session is lent, with the table's words in an array.
+#[derive(Drop)]
+pub struct Kept<'a> {
+    pub table: &'a mut [u64; WORDS],
+    pub window: &'a mut [u8],
+    pub parts: &'a mut [u8],
+    pub part_owns: &'a mut [u64],
+    pub held: &'a mut [u8],
+    pub held_owns: &'a mut [u64],
+    pub sets: &'a mut [u64],
+    pub earlier: &'a mut [u64],
+}
+
 // The rounds of the open update, as many as there is room for.
-fn work<'a>(
-    table: &'a [u64; WORDS],
+fn work(
+    table: &mut [u64; WORDS],
     record: Record,
     turns: u64,
-    held: &'a [u8],
-    held_owns: &'a [u64],
+    held: &mut [u8],
+    held_owns: &mut [u64],
     sets: &mut [u64],
-    earlier: &'a [u64],
+    earlier: &mut [u64],
     out: &mut [u8],
     printed: usize,
 ) -> Told
-    requires going { Going table.now (lent held.now held_owns.now sets.old earlier.now) «record» }
+    requires going { Going table.old (lent held.old held_owns.old sets.old earlier.old) «record» }
     requires printed_in_bounds { printed ≤ length out.old }
-    ensures { RoundsTold table.now (lent held.now held_owns.now sets.old earlier.now) «record» turns printed out.old result (lent held.now held_owns.now sets.new earlier.now) out.new }
+    ensures unchanged { (table.new ≡ table.old) × (held.new ≡ held.old) × (held_owns.new ≡ held_owns.old) × (earlier.new ≡ earlier.old) }
+    ensures told { RoundsTold table.old (lent held.old held_owns.old sets.old earlier.old) «record» turns printed out.old result (lent held.new held_owns.new sets.new earlier.new) out.new }
 {
     let mut a = [0u16; SLOTS];
     let mut b = [0u16; SLOTS];
@@ -68,39 +83,36 @@ fn work<'a>(
     )
 }
 
-// A line that is whole: the first bytes of the window.
-fn hear_line(
-    table: &mut [u64; WORDS],
-    state: State,
-    window: &[u8],
-    begun: usize,
-    parts: &mut [u8],
-    part_owns: &mut [u64],
-    held: &mut [u8],
-    held_owns: &mut [u64],
-    sets: &mut [u64],
-    earlier: &mut [u64],
-    out: &mut [u8],
-    printed: usize,
-) -> Told
-    requires table_len { (length table.old ≡ table_words) × Sound state.awaited table.old part_owns.old (lent held.old held_owns.old sets.old earlier.old) state.«record» }
-    requires parts_kept_in_bounds { (parts_kept ≤ length parts.old) × (owns_kept ≤ length part_owns.old) × Spacious out.old printed }
-    requires begun_in_bounds { begun ≤ length window.now }
-    ensures { Hears (hearing state.awaited (frame_at (take begun window.now) 0 state.line).frame state.line table.old parts.old part_owns.old (lent held.old held_owns.old sets.old earlier.old) state.«record») result printed out.old out.new table.new parts.new part_owns.new (lent held.new held_owns.new sets.new earlier.new) }
+// The line that is whole: the first bytes of the window.
+fn frame_in(kept: &Kept, begun: usize, line: u32) -> Frame
+    requires { begun ≤ length kept.now.window.now }
+    ensures { result ≡ (frame_at (take begun kept.now.window.now) 0 line).frame }
 {
-    let frame = frame_at(&window[..begun], 0, state.line).frame;
+    frame_at(&kept.window[..begun], 0, line).frame
+}
+
+// What it says, heard.
+fn hear_line(kept: &mut Kept, state: State, begun: usize, out: &mut [u8], printed: usize) -> Told
+    requires table_len { (length kept.old.table.now ≡ table_words) × Sound state.awaited kept.old.table.now kept.old.part_owns.now (memory_of kept.old) state.«record» }
+    requires parts_kept_in_bounds { (parts_kept ≤ length kept.old.parts.now) × (owns_kept ≤ length kept.old.part_owns.now) × Spacious out.old printed }
+    requires begun_in_bounds { begun ≤ length kept.old.window.now }
+    ensures same { Same kept.old kept.new }
+    ensures window { kept.new.window.now ≡ kept.old.window.now }
+    ensures hears { Hears (hearing state.awaited (frame_at (take begun kept.old.window.now) 0 state.line).frame state.line kept.old.table.now kept.old.parts.now kept.old.part_owns.now (memory_of kept.old) state.«record») result printed out.old out.new kept.new.table.now kept.new.parts.now kept.new.part_owns.now (memory_of kept.new) }
+{
+    let frame = frame_in(kept, begun, state.line);
     hear(
-        table,
+        kept.table,
         state.awaited,
         state.record,
         state.line,
         frame,
-        parts,
-        part_owns,
-        held,
-        held_owns,
-        sets,
-        earlier,
+        kept.parts,
+        kept.part_owns,
+        kept.held,
+        kept.held_owns,
+        kept.sets,
+        kept.earlier,
         out,
         printed,
     )
@@ -108,24 +120,18 @@ fn hear_line(
 
 // Bytes of the piece, and the line that they make whole.
 fn listen(
-    table: &mut [u64; WORDS],
+    kept: &mut Kept,
     state: State,
-    window: &mut [u8],
-    parts: &mut [u8],
-    part_owns: &mut [u64],
-    held: &mut [u8],
-    held_owns: &mut [u64],
-    sets: &mut [u64],
-    earlier: &mut [u64],
     piece: &[u8],
     from: usize,
     out: &mut [u8],
     printed: usize,
 ) -> Fed
-    requires { Ready (suspended table.old window.old parts.old part_owns.old (lent held.old held_owns.old sets.old earlier.old) state) out.old × Spacious out.old printed × (silent state.awaited ≡ false) }
-    ensures { Turns (suspended table.old window.old parts.old part_owns.old (lent held.old held_owns.old sets.old earlier.old) state) piece.now from out.old printed (suspended table.new window.new parts.new part_owns.new (lent held.new held_owns.new sets.new earlier.new) result.state) result.place out.new result.printed result.more }
+    requires { Ready (kept_with kept.old state) out.old × Spacious out.old printed × (silent state.awaited ≡ false) }
+    ensures same { Same kept.old kept.new }
+    ensures turns { Turns (kept_with kept.old state) piece.now from out.old printed (kept_with kept.new result.state) result.place out.new result.printed result.more }
 {
-    let g = gather(piece, from, window, state.begun);
+    let g = gather(piece, from, kept.window, state.begun);
     if !g.whole {
         return Fed {
             state: State {
@@ -137,10 +143,7 @@ fn listen(
             more: false,
         };
     }
-    let told = hear_line(
-        table, state, window, g.begun, parts, part_owns, held, held_owns, sets, earlier, out,
-        printed,
-    );
+    let told = hear_line(kept, state, g.begun, out, printed);
     Fed {
         state: State {
             awaited: told.awaited,
@@ -156,33 +159,27 @@ fn listen(
 
 // Rounds while an update is at work, else a line; nothing behind the session's end.
 fn turn(
-    table: &mut [u64; WORDS],
+    kept: &mut Kept,
     state: State,
-    window: &mut [u8],
-    parts: &mut [u8],
-    part_owns: &mut [u64],
-    held: &mut [u8],
-    held_owns: &mut [u64],
-    sets: &mut [u64],
-    earlier: &mut [u64],
     piece: &[u8],
     from: usize,
     out: &mut [u8],
     printed: usize,
 ) -> Fed
-    requires { Ready (suspended table.old window.old parts.old part_owns.old (lent held.old held_owns.old sets.old earlier.old) state) out.old × Spacious out.old printed }
-    ensures { Turns (suspended table.old window.old parts.old part_owns.old (lent held.old held_owns.old sets.old earlier.old) state) piece.now from out.old printed (suspended table.new window.new parts.new part_owns.new (lent held.new held_owns.new sets.new earlier.new) result.state) result.place out.new result.printed result.more }
+    requires { Ready (kept_with kept.old state) out.old × Spacious out.old printed }
+    ensures same { Same kept.old kept.new }
+    ensures turns { Turns (kept_with kept.old state) piece.now from out.old printed (kept_with kept.new result.state) result.place out.new result.printed result.more }
 {
     match state.awaited {
         Awaited::Working { turns } => {
             let told = work(
-                table,
+                kept.table,
                 state.record,
                 turns,
-                held,
-                held_owns,
-                sets,
-                earlier,
+                kept.held,
+                kept.held_owns,
+                kept.sets,
+                kept.earlier,
                 out,
                 printed,
             );
@@ -203,10 +200,7 @@ fn turn(
             printed,
             more: false,
         },
-        _ => listen(
-            table, state, window, parts, part_owns, held, held_owns, sets, earlier, piece, from,
-            out, printed,
-        ),
+        _ => listen(kept, state, piece, from, out, printed),
     }
 }
 
@@ -221,22 +215,10 @@ fn has_room(size: usize, printed: usize) -> bool
 }
 
 // Turns until there is nothing left to do, or what a line can print has no room.
-fn feed_sound(
-    table: &mut [u64; WORDS],
-    state: State,
-    window: &mut [u8],
-    parts: &mut [u8],
-    part_owns: &mut [u64],
-    held: &mut [u8],
-    held_owns: &mut [u64],
-    sets: &mut [u64],
-    earlier: &mut [u64],
-    piece: &[u8],
-    from: usize,
-    out: &mut [u8],
-) -> Fed
-    requires { Ready (suspended table.old window.old parts.old part_owns.old (lent held.old held_owns.old sets.old earlier.old) state) out.old }
-    ensures { Feeds (suspended table.old window.old parts.old part_owns.old (lent held.old held_owns.old sets.old earlier.old) state) piece.now from out.old (suspended table.new window.new parts.new part_owns.new (lent held.new held_owns.new sets.new earlier.new) result.state) result.place result.printed result.more out.new × (length table.new ≡ table_words) }
+fn feed_sound(kept: &mut Kept, state: State, piece: &[u8], from: usize, out: &mut [u8]) -> Fed
+    requires { Ready (kept_with kept.old state) out.old }
+    ensures same { Same kept.old kept.new }
+    ensures feeds { Feeds (kept_with kept.old state) piece.now from out.old (kept_with kept.new result.state) result.place result.printed result.more out.new × (length kept.new.table.now ≡ table_words) }
 {
     let mut now = Fed {
         state,
@@ -245,21 +227,7 @@ fn feed_sound(
         more: true,
     };
     while now.more && has_room(out.len(), now.printed) {
-        now = turn(
-            table,
-            now.state,
-            window,
-            parts,
-            part_owns,
-            held,
-            held_owns,
-            sets,
-            earlier,
-            piece,
-            now.place,
-            out,
-            now.printed,
-        );
+        now = turn(kept, now.state, piece, now.place, out, now.printed);
     }
     now
 }
@@ -291,10 +259,17 @@ pub fn feed(
     judge_state(
         &table, state, window, part_owns, held, held_owns, sets, earlier,
     )?;
-    let fed = feed_sound(
-        &mut table, state, window, parts, part_owns, held, held_owns, sets, earlier, piece, from,
-        out,
-    );
+    let mut kept = Kept {
+        table: &mut table,
+        window,
+        parts,
+        part_owns,
+        held,
+        held_owns,
+        sets,
+        earlier,
+    };
+    let fed = feed_sound(&mut kept, state, piece, from, out);
     copy_out(&table, words);
     Ok(fed)
 }

@@ -11,7 +11,7 @@ use Rattle.refusal.specs.declared.Refusal.{Refusal}
 use Rattle.text_frame.specs.Out.{refusal_text}
 use Rattle.update.specs.declared.Record.{Record}
 use Rattle.update.specs.Records.{empty_record}
-use Rattle.update.specs.Memories.{Memory}
+use Rattle.update.specs.Memories.{lent, Memory}
 use Rattle.text_frame.specs.declared.Expected.{Expected}
 use Rattle.text_frame.specs.declared.Misread.{Misread}
 use Rattle.text_frame.proofs.Printed.{refusal_length}
@@ -39,6 +39,12 @@ as_well e x = rw e x
 pub kept_as : {h : Heard} {told : Told} {printed : ℕ} {out out' words ps qs os ws : List ℕ} {m : Memory} → ps ≡ qs → os ≡ ws
     → Hears h told printed out out' words qs ws m → Hears h told printed out out' words ps os m
 kept_as e f x = rw (e, f) x
+
+-- what was lent, where it is what other buffers are
+pub lent_as : {h : Heard} {told : Told} {printed : ℕ} {out out' words ps os held held_owns sets earlier ps' os' held' held_owns' sets' earlier' : List ℕ}
+    → ps' ≡ ps → os' ≡ os → held' ≡ held → held_owns' ≡ held_owns → sets' ≡ sets → earlier' ≡ earlier
+    → Hears h told printed out out' words ps os (lent held held_owns sets earlier) → Hears h told printed out out' words ps' os' (lent held' held_owns' sets' earlier')
+lent_as p o e f g h x = rw (p, o, e, f, g, h) x
 
 pub called_as : (t : List ℕ) {ps qs os ws : List ℕ} (m : Memory) (r : Record) (coming : Coming) (count command : ℕ) → ps ≡ qs → os ≡ ws
     → called t qs ws m r coming count command ≡ called t ps os m r coming count command

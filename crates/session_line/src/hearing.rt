@@ -6,9 +6,11 @@ ghost use Rattle.text_table.specs.Read.{Awaits, taken_at, words_after};
 ghost use Rattle.update_judge.specs.Order.{Holding};
 ghost use Rattle.session_owed.specs.Owed.{owns_kept, parts_kept, Sound};
 ghost use Rattle.session_owed.specs.Hearing.{stopped, strange, awaited_of, tabled, ordered, naming, changed, commanded, kept_at, pointed, noded, hearing, Hears, Spacious};
+ghost use Rattle.session_line.specs.Lent.{memory_in, Holds, Same, SameParts};
 ghost use Rattle.table.specs.Words.{table_words};
 
 use crate::dumping::tell_sets;
+use crate::lent::{Lent, Parts};
 use crate::opening::open_update;
 use refusal::Refusal;
 use session_owed::{Awaited, Coming, PARTS, Told, announced_in, keep_point};
@@ -80,23 +82,19 @@ fn hear_order(
     coming: Coming,
     count: usize,
     line: u32,
-    parts: &[u8],
-    part_owns: &[u64],
-    held: &mut [u8],
-    held_owns: &mut [u64],
-    sets: &mut [u64],
-    earlier: &mut [u64],
+    parts: &Parts,
+    memory: &mut Lent,
     out: &mut [u8],
     printed: usize,
 ) -> Told
-    requires holding { Holding table.now (lent held.old held_owns.old sets.old earlier.old) «record» }
-    requires parts_kept_in_bounds { (parts_kept ≤ length parts.now) × (owns_kept ≤ length part_owns.now) × (printed + 13 ≤ length out.old) }
-    ensures { Hears (ordered table.now parts.now part_owns.now (lent held.old held_owns.old sets.old earlier.old) «record» coming count line) result printed out.old out.new table.now parts.now part_owns.now (lent held.new held_owns.new sets.new earlier.new) }
+    requires holding { Holding table.now (memory_in memory.old) «record» }
+    requires parts_kept_in_bounds { Holds parts.now × (printed + 13 ≤ length out.old) }
+    ensures same { Same memory.old memory.new }
+    ensures heard { Hears (ordered table.now parts.now.nodes.now parts.now.owns.now (memory_in memory.old) «record» coming count line) result printed out.old out.new table.now parts.now.nodes.now parts.now.owns.now (memory_in memory.new) }
 {
     if count == 0 {
         return open_update(
-            table, record, coming, count, line, parts, part_owns, held, held_owns, sets, earlier,
-            out, printed,
+            table, record, coming, count, line, parts, memory, out, printed,
         );
     }
     Told {
@@ -117,18 +115,15 @@ fn hear_naming(
     record: Record,
     count: usize,
     line: u32,
-    parts: &[u8],
-    part_owns: &[u64],
-    held: &mut [u8],
-    held_owns: &mut [u64],
-    sets: &mut [u64],
-    earlier: &mut [u64],
+    parts: &Parts,
+    memory: &mut Lent,
     out: &mut [u8],
     printed: usize,
 ) -> Told
-    requires holding { Holding table.now (lent held.old held_owns.old sets.old earlier.old) «record» }
-    requires parts_kept_in_bounds { (parts_kept ≤ length parts.now) × (owns_kept ≤ length part_owns.now) × (printed + 13 ≤ length out.old) }
-    ensures { Hears (naming table.now parts.now part_owns.now (lent held.old held_owns.old sets.old earlier.old) «record» count line) result printed out.old out.new table.now parts.now part_owns.now (lent held.new held_owns.new sets.new earlier.new) }
+    requires holding { Holding table.now (memory_in memory.old) «record» }
+    requires parts_kept_in_bounds { Holds parts.now × (printed + 13 ≤ length out.old) }
+    ensures same { Same memory.old memory.new }
+    ensures heard { Hears (naming table.now parts.now.nodes.now parts.now.owns.now (memory_in memory.old) «record» count line) result printed out.old out.new table.now parts.now.nodes.now parts.now.owns.now (memory_in memory.new) }
 {
     if count == 0 {
         return open_update(
@@ -138,11 +133,7 @@ fn hear_naming(
             0,
             line,
             parts,
-            part_owns,
-            held,
-            held_owns,
-            sets,
-            earlier,
+            memory,
             out,
             printed,
         );
@@ -164,18 +155,15 @@ fn hear_change(
     record: Record,
     change: Change,
     line: u32,
-    parts: &[u8],
-    part_owns: &[u64],
-    held: &mut [u8],
-    held_owns: &mut [u64],
-    sets: &mut [u64],
-    earlier: &mut [u64],
+    parts: &Parts,
+    memory: &mut Lent,
     out: &mut [u8],
     printed: usize,
 ) -> Told
-    requires holding { Holding table.now (lent held.old held_owns.old sets.old earlier.old) «record» }
-    requires parts_kept_in_bounds { (parts_kept ≤ length parts.now) × (owns_kept ≤ length part_owns.now) × (printed + 13 ≤ length out.old) }
-    ensures { Hears (changed table.now parts.now part_owns.now (lent held.old held_owns.old sets.old earlier.old) «record» change line) result printed out.old out.new table.now parts.now part_owns.now (lent held.new held_owns.new sets.new earlier.new) }
+    requires holding { Holding table.now (memory_in memory.old) «record» }
+    requires parts_kept_in_bounds { Holds parts.now × (printed + 13 ≤ length out.old) }
+    ensures same { Same memory.old memory.new }
+    ensures heard { Hears (changed table.now parts.now.nodes.now parts.now.owns.now (memory_in memory.old) «record» change line) result printed out.old out.new table.now parts.now.nodes.now parts.now.owns.now (memory_in memory.new) }
 {
     match change {
         Change::Load { count } => hear_order(
@@ -185,11 +173,7 @@ fn hear_change(
             usize::from(count),
             line,
             parts,
-            part_owns,
-            held,
-            held_owns,
-            sets,
-            earlier,
+            memory,
             out,
             printed,
         ),
@@ -200,11 +184,7 @@ fn hear_change(
             usize::from(count),
             line,
             parts,
-            part_owns,
-            held,
-            held_owns,
-            sets,
-            earlier,
+            memory,
             out,
             printed,
         ),
@@ -214,11 +194,7 @@ fn hear_change(
             usize::from(count),
             line,
             parts,
-            part_owns,
-            held,
-            held_owns,
-            sets,
-            earlier,
+            memory,
             out,
             printed,
         ),
@@ -231,27 +207,21 @@ fn hear_command(
     record: Record,
     frame: Frame,
     line: u32,
-    parts: &[u8],
-    part_owns: &[u64],
-    held: &mut [u8],
-    held_owns: &mut [u64],
-    sets: &mut [u64],
-    earlier: &mut [u64],
+    parts: &Parts,
+    memory: &mut Lent,
     out: &mut [u8],
     printed: usize,
 ) -> Told
-    requires holding { Holding table.now (lent held.old held_owns.old sets.old earlier.old) «record» }
-    requires parts_kept_in_bounds { (parts_kept ≤ length parts.now) × (owns_kept ≤ length part_owns.now) × Spacious out.old printed }
-    ensures { Hears (commanded table.now parts.now part_owns.now (lent held.old held_owns.old sets.old earlier.old) «record» frame line) result printed out.old out.new table.now parts.now part_owns.now (lent held.new held_owns.new sets.new earlier.new) }
+    requires holding { Holding table.now (memory_in memory.old) «record» }
+    requires parts_kept_in_bounds { Holds parts.now × Spacious out.old printed }
+    ensures same { Same memory.old memory.new }
+    ensures heard { Hears (commanded table.now parts.now.nodes.now parts.now.owns.now (memory_in memory.old) «record» frame line) result printed out.old out.new table.now parts.now.nodes.now parts.now.owns.now (memory_in memory.new) }
 {
     match frame {
         Frame::Change(change) => hear_change(
-            table, record, change, line, parts, part_owns, held, held_owns, sets, earlier, out,
-            printed,
+            table, record, change, line, parts, memory, out, printed,
         ),
-        Frame::Dump => tell_sets(
-            table, record, held, held_owns, sets, earlier, line, out, printed,
-        ),
+        Frame::Dump => tell_sets(table, record, memory, line, out, printed),
         _ => stop_at(out, printed, record, frame, line),
     }
 }
@@ -265,18 +235,15 @@ fn hear_point(
     start: u32,
     frame: Frame,
     line: u32,
-    parts: &[u8],
-    part_owns: &mut [u64],
-    held: &mut [u8],
-    held_owns: &mut [u64],
-    sets: &mut [u64],
-    earlier: &mut [u64],
+    parts: &mut Parts,
+    memory: &mut Lent,
     out: &mut [u8],
     printed: usize,
 ) -> Told
-    requires holding { Holding table.now (lent held.old held_owns.old sets.old earlier.old) «record» }
-    requires parts_kept_in_bounds { (parts_kept ≤ length parts.now) × (owns_kept ≤ length part_owns.old) × (printed + 13 ≤ length out.old) × (taken < count) }
-    ensures { Hears (pointed count taken start frame line table.now parts.now part_owns.old (lent held.old held_owns.old sets.old earlier.old) «record») result printed out.old out.new table.now parts.now part_owns.new (lent held.new held_owns.new sets.new earlier.new) }
+    requires holding { Holding table.now (memory_in memory.old) «record» }
+    requires parts_kept_in_bounds { Holds parts.old × (printed + 13 ≤ length out.old) × (taken < count) }
+    ensures same { Same memory.old memory.new × SameParts parts.old parts.new }
+    ensures heard { Hears (pointed count taken start frame line table.now parts.old.nodes.now parts.old.owns.now (memory_in memory.old) «record») result printed out.old out.new table.now parts.new.nodes.now parts.new.owns.now (memory_in memory.new) }
 {
     let Frame::Point {
         point,
@@ -285,7 +252,8 @@ fn hear_point(
     else {
         return stop_at(out, printed, record, frame, line);
     };
-    keep_point(part_owns, taken, point, nodes);
+    let owns = &mut *parts.owns;
+    keep_point(owns, taken, point, nodes);
     if taken + 1 < count {
         return Told {
             awaited: Awaited::Naming {
@@ -297,7 +265,7 @@ fn hear_point(
             printed,
         };
     }
-    let all = announced_in(part_owns, count);
+    let all = announced_in(owns, count);
     hear_order(
         table,
         record,
@@ -305,24 +273,21 @@ fn hear_point(
         all,
         start,
         parts,
-        part_owns,
-        held,
-        held_owns,
-        sets,
-        earlier,
+        memory,
         out,
         printed,
     )
 }
 
 // A node is kept while a tree may have so many.
-fn keep_node(parts: &mut [u8], part_owns: &mut [u64], taken: usize, production: u8, own: u64)
-    requires { (parts_kept ≤ length parts.old) × (parts_kept ≤ length part_owns.old) }
-    ensures { (parts.new ≡ kept_at taken production parts.old) × (part_owns.new ≡ kept_at taken own part_owns.old) }
+fn keep_node(parts: &mut Parts, taken: usize, production: u8, own: u64)
+    requires { Holds parts.old }
+    ensures same { SameParts parts.old parts.new }
+    ensures kept { (parts.new.nodes.now ≡ kept_at taken production parts.old.nodes.now) × (parts.new.owns.now ≡ kept_at taken own parts.old.owns.now) }
 {
     if taken < PARTS {
-        parts[taken] = production;
-        part_owns[taken] = own;
+        parts.nodes[taken] = production;
+        parts.owns[taken] = own;
     }
 }
 
@@ -336,23 +301,20 @@ fn hear_node(
     command: u32,
     frame: Frame,
     line: u32,
-    parts: &mut [u8],
-    part_owns: &mut [u64],
-    held: &mut [u8],
-    held_owns: &mut [u64],
-    sets: &mut [u64],
-    earlier: &mut [u64],
+    parts: &mut Parts,
+    memory: &mut Lent,
     out: &mut [u8],
     printed: usize,
 ) -> Told
-    requires holding { Holding table.now (lent held.old held_owns.old sets.old earlier.old) «record» }
-    requires parts_kept_in_bounds { (parts_kept ≤ length parts.old) × (owns_kept ≤ length part_owns.old) × (printed + 13 ≤ length out.old) × (taken < count) }
-    ensures { Hears (noded coming count taken command frame line table.now parts.old part_owns.old (lent held.old held_owns.old sets.old earlier.old) «record») result printed out.old out.new table.now parts.new part_owns.new (lent held.new held_owns.new sets.new earlier.new) }
+    requires holding { Holding table.now (memory_in memory.old) «record» }
+    requires parts_kept_in_bounds { Holds parts.old × (printed + 13 ≤ length out.old) × (taken < count) }
+    ensures same { Same memory.old memory.new × SameParts parts.old parts.new }
+    ensures heard { Hears (noded coming count taken command frame line table.now parts.old.nodes.now parts.old.owns.now (memory_in memory.old) «record») result printed out.old out.new table.now parts.new.nodes.now parts.new.owns.now (memory_in memory.new) }
 {
     let Frame::Node { production, own } = frame else {
         return stop_at(out, printed, record, frame, line);
     };
-    keep_node(parts, part_owns, taken, production, own);
+    keep_node(parts, taken, production, own);
     if taken + 1 < count {
         return Told {
             awaited: Awaited::Nodes {
@@ -366,8 +328,7 @@ fn hear_node(
         };
     }
     open_update(
-        table, record, coming, count, command, parts, part_owns, held, held_owns, sets, earlier,
-        out, printed,
+        table, record, coming, count, command, parts, memory, out, printed,
     )
 }
 
@@ -391,10 +352,26 @@ pub fn hear(
     requires parts_kept_in_bounds { (parts_kept ≤ length parts.old) × (owns_kept ≤ length part_owns.old) × Spacious out.old printed }
     ensures { Hears (hearing awaited frame line table.old parts.old part_owns.old (lent held.old held_owns.old sets.old earlier.old) «record») result printed out.old out.new table.new parts.new part_owns.new (lent held.new held_owns.new sets.new earlier.new) }
 {
+    let mut parts = Parts {
+        nodes: parts,
+        owns: part_owns,
+    };
+    let mut memory = Lent {
+        held,
+        held_owns,
+        sets,
+        earlier,
+    };
     match awaited {
         Awaited::Table(expected) => hear_table(table, expected, frame, line, out, printed),
         Awaited::Command => hear_command(
-            table, record, frame, line, parts, part_owns, held, held_owns, sets, earlier, out,
+            table,
+            record,
+            frame,
+            line,
+            &parts,
+            &mut memory,
+            out,
             printed,
         ),
         Awaited::Naming {
@@ -402,8 +379,17 @@ pub fn hear(
             taken,
             line: command,
         } => hear_point(
-            table, record, count, taken, command, frame, line, parts, part_owns, held, held_owns,
-            sets, earlier, out, printed,
+            table,
+            record,
+            count,
+            taken,
+            command,
+            frame,
+            line,
+            &mut parts,
+            &mut memory,
+            out,
+            printed,
         ),
         Awaited::Nodes {
             coming,
@@ -411,8 +397,18 @@ pub fn hear(
             taken,
             line: command,
         } => hear_node(
-            table, record, coming, count, taken, command, frame, line, parts, part_owns, held,
-            held_owns, sets, earlier, out, printed,
+            table,
+            record,
+            coming,
+            count,
+            taken,
+            command,
+            frame,
+            line,
+            &mut parts,
+            &mut memory,
+            out,
+            printed,
         ),
         Awaited::Working { .. } | Awaited::Stopped => Told {
             awaited,

@@ -3,6 +3,7 @@
 
 mod dumping;
 mod hearing;
+mod lent;
 mod opening;
 
 pub use hearing::hear;

@@ -2,10 +2,11 @@
 ghost use Rattle.std.specs.Prelude.{◌≡◌, ◌+◌, ◌≤◌, length};
 ghost use Rattle.update_open.specs.Lent.{begun};
 ghost use Rattle.update_judge.specs.Order.{Holding};
-ghost use Rattle.session_owed.specs.Owed.{owns_kept, parts_kept, order_call};
+ghost use Rattle.session_owed.specs.Owed.{order_call};
 ghost use Rattle.session_owed.specs.Hearing.{called, Hears};
-ghost use Rattle.update.specs.Memories.{lent};
+ghost use Rattle.session_line.specs.Lent.{memory_in, Holds, Same};
 
+use crate::lent::{Lent, Parts};
 use refusal::Refusal;
 use session_owed::{Awaited, Coming, PARTS, Told, points_in};
 use text_frame::put_refusal;
@@ -24,18 +25,33 @@ fn call_order(
     points: [Point; 8],
     new: &[u8],
     new_owns: &[u64],
-    held: &mut [u8],
-    held_owns: &mut [u64],
-    sets: &mut [u64],
-    earlier: &mut [u64],
+    memory: &mut Lent,
 ) -> Result<Record, Refusal>
-    requires { Holding table.now (lent held.old held_owns.old sets.old earlier.old) «record» }
-    ensures { begun «record» result (lent held.new held_owns.new sets.new earlier.new) ≡ order_call coming points table.now (lent held.old held_owns.old sets.old earlier.old) «record» new.now new_owns.now }
+    requires { Holding table.now (memory_in memory.old) «record» }
+    ensures same { Same memory.old memory.new }
+    ensures called { begun «record» result (memory_in memory.new) ≡ order_call coming points table.now (memory_in memory.old) «record» new.now new_owns.now }
 {
     match coming {
-        Coming::Load => load_judged(table, record, new, new_owns, held, held_owns, sets, earlier),
+        Coming::Load => load_judged(
+            table,
+            record,
+            new,
+            new_owns,
+            memory.held,
+            memory.held_owns,
+            memory.sets,
+            memory.earlier,
+        ),
         Coming::Replace(point) => replace_judged(
-            table, record, point, new, new_owns, held, held_owns, sets, earlier,
+            table,
+            record,
+            point,
+            new,
+            new_owns,
+            memory.held,
+            memory.held_owns,
+            memory.sets,
+            memory.earlier,
         ),
         Coming::Several(count) => replace_points_judged(
             table,
@@ -43,10 +59,10 @@ fn call_order(
             Places { count, points },
             new,
             new_owns,
-            held,
-            held_owns,
-            sets,
-            earlier,
+            memory.held,
+            memory.held_owns,
+            memory.sets,
+            memory.earlier,
         ),
     }
 }
@@ -58,33 +74,27 @@ pub fn open_update(
     coming: Coming,
     count: usize,
     line: u32,
-    parts: &[u8],
-    part_owns: &[u64],
-    held: &mut [u8],
-    held_owns: &mut [u64],
-    sets: &mut [u64],
-    earlier: &mut [u64],
+    parts: &Parts,
+    memory: &mut Lent,
     out: &mut [u8],
     printed: usize,
 ) -> Told
-    requires holding { Holding table.now (lent held.old held_owns.old sets.old earlier.old) «record» }
-    requires parts_kept_in_bounds { (parts_kept ≤ length parts.now) × (owns_kept ≤ length part_owns.now) × (printed + 13 ≤ length out.old) }
-    ensures { Hears (called table.now parts.now part_owns.now (lent held.old held_owns.old sets.old earlier.old) «record» coming count line) result printed out.old out.new table.now parts.now part_owns.now (lent held.new held_owns.new sets.new earlier.new) }
+    requires holding { Holding table.now (memory_in memory.old) «record» }
+    requires parts_kept_in_bounds { Holds parts.now × (printed + 13 ≤ length out.old) }
+    ensures same { Same memory.old memory.new }
+    ensures heard { Hears (called table.now parts.now.nodes.now parts.now.owns.now (memory_in memory.old) «record» coming count line) result printed out.old out.new table.now parts.now.nodes.now parts.now.owns.now (memory_in memory.new) }
 {
     // More nodes than a tree may have are refused whatever they are: as many stand for all of them.
     let n = count.min(PARTS);
-    let points = points_in(part_owns);
+    let points = points_in(parts.owns);
     let opened = call_order(
         table,
         record,
         coming,
         points,
-        &parts[..n],
-        &part_owns[..n],
-        held,
-        held_owns,
-        sets,
-        earlier,
+        &parts.nodes[..n],
+        &parts.owns[..n],
+        memory,
     );
     match opened {
         Ok(next) => Told {

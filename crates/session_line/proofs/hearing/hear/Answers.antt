@@ -1,9 +1,10 @@
 -- The arm that is taken tells the awaited. Assumes nothing.
 use native.Mathlib.Omega.{arith}
+use borrow.Author.Rules.{rules}
 use Rattle.text_table.proofs.Sofar.{awaits_so}
 use Rattle.update.specs.Memories.{lent}
 use Rattle.session_line.proofs.Cases.{by_table, by_command, by_naming, by_nodes, by_none}
-use Rattle.session_line.proofs.Heard.{as_well, silent}
+use Rattle.session_line.proofs.Heard.{as_well, lent_as, silent}
 use Rattle.session_line.proofs.hearing.hear.Goals as goal
 
 pub hear_table-requires : goal.hear_table-requires
@@ -23,21 +24,24 @@ pub returns-in-Command : goal.returns-in-Command
 returns-in-Command c =
     let a = c.args in
     let m = lent a.held.now a.held_owns.now a.sets.now a.earlier.now in
-    as_well (by_command a.table.now a.parts.now a.part_owns.now m a.«record» a.frame a.line a.awaited c.in-Command.is) c.hear_command.ensures
+    lent_as (search rules) (search rules) (search rules) (search rules) (search rules) (search rules)
+    (as_well (by_command a.table.now a.parts.now a.part_owns.now m a.«record» a.frame a.line a.awaited c.in-Command.is) c.hear_command.ensures.heard)
 
 pub returns-in-Naming : goal.returns-in-Naming
 returns-in-Naming c =
     let a = c.args in
     let m = lent a.held.now a.held_owns.now a.sets.now a.earlier.now in
     let g = c.in-Naming in
-    as_well (by_naming a.table.now a.parts.now a.part_owns.now m a.«record» a.frame a.line a.awaited g.count g.taken g.command g.is) c.hear_point.ensures
+    lent_as (search rules) (search rules) (search rules) (search rules) (search rules) (search rules)
+    (as_well (by_naming a.table.now a.parts.now a.part_owns.now m a.«record» a.frame a.line a.awaited g.count g.taken g.command g.is) c.hear_point.ensures.heard)
 
 pub returns-in-Nodes : goal.returns-in-Nodes
 returns-in-Nodes c =
     let a = c.args in
     let m = lent a.held.now a.held_owns.now a.sets.now a.earlier.now in
     let g = c.in-Nodes in
-    as_well (by_nodes a.table.now a.parts.now a.part_owns.now m a.«record» a.frame a.line a.awaited g.coming g.count g.taken g.command g.is) c.hear_node.ensures
+    lent_as (search rules) (search rules) (search rules) (search rules) (search rules) (search rules)
+    (as_well (by_nodes a.table.now a.parts.now a.part_owns.now m a.«record» a.frame a.line a.awaited g.coming g.count g.taken g.command g.is) c.hear_node.ensures.heard)
 
 pub returns-in-Working : goal.returns-in-Working
 returns-in-Working c =
