@@ -2,10 +2,16 @@
 use Rattle.std.specs.Prelude.{◌≡◌, List, ℕ, ◌≤◌, ◌<◌, length, take, Result, Ok, Option, IfSome}
 use Rattle.refusal.specs.declared.Refusal.{Refusal}
 use Rattle.session_memory.specs.declared.State.{State}
-use Rattle.session_memory.specs.Suspended.{Suspended}
+use Rattle.session_memory.specs.Suspended.{Suspended, suspended}
+use Rattle.update.specs.Memories.{lent}
+use Rattle.session_serve.specs.declared.Memory.{Memory}
 use Rattle.session_feed.specs.declared.Fed.{Fed}
 use Rattle.session_feed.specs.Feeding.{FeedSays}
 use Rattle.session_feed.specs.Laws.{Again, Piece}
+
+-- the session that the program's memory holds
+abbrev pub session_in : Memory → State → Suspended
+session_in m = suspended m.words m.window m.parts m.part_owns (lent m.held m.held_owns m.sets m.earlier)
 
 -- 19.11: it goes on with what `feed` answered, or is over
 abbrev pub Goes : Result Fed Refusal → Option Fed → Type 0

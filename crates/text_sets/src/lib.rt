@@ -27,9 +27,10 @@ fn put_slot(
     ensures { (result ≡ place + length (slot_text table.now (take nodes held.now) sets.now x)) × (buffer.new ≡ sets_at buffer.old place (slot_text table.now (take nodes held.now) sets.now x)) }
 {
     if is_declared(table, held, nodes, x) {
-        return put_set(buffer, place, x as u16, sets[x]);
+        put_set(buffer, place, x as u16, sets[x])
+    } else {
+        place
     }
-    place
 }
 
 // Writes the declared instances of the tree of the first `nodes` nodes with their sets, rising, and says where the text behind goes.
@@ -45,12 +46,9 @@ pub fn put_sets(
     requires text_in_bounds { place + length (told_from table.now (take nodes held.now) sets.now 0 (8 * nodes)) ≤ length buffer.old }
     ensures { (result ≡ place + length (told_from table.now (take nodes held.now) sets.now 0 (8 * nodes))) × (buffer.new ≡ sets_at buffer.old place (told_from table.now (take nodes held.now) sets.now 0 (8 * nodes))) }
 {
-    let most = 8 * nodes;
     let mut at = place;
-    let mut x: usize = 0;
-    while x < most {
+    for x in 0..8 * nodes {
         at = put_slot(table, held, nodes, sets, x, buffer, at);
-        x += 1;
     }
     at
 }
@@ -60,14 +58,11 @@ pub fn sets_length(table: &[u64; 2657], held: &[u8], nodes: usize, sets: &[u64])
     requires { Tellable table.now held.now sets.now nodes }
     ensures { result ≡ length (told_from table.now (take nodes held.now) sets.now 0 (8 * nodes)) }
 {
-    let most = 8 * nodes;
-    let mut n: usize = 0;
-    let mut x: usize = 0;
-    while x < most {
+    let mut n = 0;
+    for x in 0..8 * nodes {
         if is_declared(table, held, nodes, x) {
             n += SET_LINE;
         }
-        x += 1;
     }
     n
 }

@@ -18,8 +18,8 @@ returns-then-is_declared c =
     let e = ap length t ∙ set_length a.x (at a.sets.now a.x) in
     (omega (arith, c.put_set.ensures.0), c.put_set.ensures.1 ∙ ap (sets a.buffer.now a.place) (sym t))
 
-pub returns : goal.returns
-returns c =
+pub returns-else-is_declared : goal.returns-else-is_declared
+returns-else-is_declared c =
     let a = c.args in
     let e = slot_empty a.table.now (take a.nodes a.held.now) a.sets.now a.x (sym c.is_declared.ensures ∙ c.if-is_declared.false) in
     (omega (arith, ap length e), ap (sets a.buffer.now a.place) (sym e))

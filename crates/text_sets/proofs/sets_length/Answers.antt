@@ -16,10 +16,10 @@ loop-x-preserved c =
     elim c.if-is_declared.branch [
       | then-is_declared w ↦
           let e = ap length (slot_told a.table.now ns a.sets.now l.x (d ∙ w.if-is_declared.true)) ∙ set_length l.x (at a.sets.now l.x) in
-          (omega arith, (omega arith, omega arith))
+          (omega arith, omega arith)
       | else-is_declared w ↦
           let e = ap length (slot_empty a.table.now ns a.sets.now l.x (d ∙ w.if-is_declared.false)) in
-          (omega arith, (omega arith, omega arith))
+          (omega arith, omega arith)
     ]
 
 pub returns : goal.returns

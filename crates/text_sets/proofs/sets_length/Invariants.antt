@@ -6,7 +6,4 @@ use Rattle.text_sets.proofs.sets_length.Given as goal
 
 abbrev pub invariant-loop-x : goal.invariant-loop-x
 invariant-loop-x l =
-    (l.x ≤ l.most) × ((l.n ≤ 23 * l.x) × (l.n + length (rest l.table (take l.nodes l.held) l.sets l.most l.x) ≡ length (told_from l.table (take l.nodes l.held) l.sets 0 (8 * l.nodes))))
-
-abbrev pub decreases-loop-x : goal.decreases-loop-x
-decreases-loop-x l = l.most - l.x
+    ((l.n ≤ 23 * l.x) × (l.n + length (rest l.table (take l.nodes l.held) l.sets (8 * l.nodes) l.x) ≡ length (told_from l.table (take l.nodes l.held) l.sets 0 (8 * l.nodes))))
