@@ -1,12 +1,9 @@
 // What steps and runs go over, made anew by each call.
-ghost use Rattle.update.specs.Memories.{lent};
-ghost use Rattle.engine.specs.Inner.Arrays.{Arranged, Viewed};
+ghost use Rattle.wire.specs.Inner.Turns.{Held};
+ghost use Rattle.engine.specs.Inner.Arrays.{Made, Viewed};
 
 use circles::SLOTS;
 use climb::Wires;
-use refusal::Refusal;
-use update::Record;
-use update_judge::judge_step;
 use update_round::Ranked;
 use wire_plan::prepare;
 
@@ -25,6 +22,40 @@ pub struct Arrays {
 }
 
 impl Arrays {
+    // None yet. They are filled where they lie: handed on by value, 57 KB would be copied at each call.
+    pub fn blank() -> Self {
+        Arrays {
+            n: 0,
+            a: [0; SLOTS],
+            b: [0; SLOTS],
+            left: [0; SLOTS],
+            rule: [0; SLOTS],
+            label: [0; SLOTS],
+            members: [0; SLOTS],
+            ends: [0; SLOTS + 1],
+            count: 0,
+        }
+    }
+
+    // Those of a sound tree.
+    pub fn arrange(&mut self, table: &[u64; 2657], tree: &[u8])
+        requires { Held table.now tree.now }
+        ensures { Made table.now tree.now self.old self.new }
+    {
+        self.n = 8 * tree.len();
+        self.count = prepare(
+            table,
+            tree,
+            &mut self.a,
+            &mut self.b,
+            &mut self.left,
+            &mut self.rule,
+            &mut self.label,
+            &mut self.members,
+            &mut self.ends,
+        );
+    }
+
     pub fn views(&self) -> (Wires<'_>, Ranked<'_>)
         ensures { Viewed self.now result.0 result.1 }
     {
@@ -43,48 +74,4 @@ impl Arrays {
         };
         (wires, ranked)
     }
-}
-
-// The arrays of the held tree, where nothing refuses a step or a run.
-pub fn arranged(
-    table: &[u64; 2657],
-    record: Record,
-    held: &[u8],
-    held_owns: &[u64],
-    sets: &[u64],
-    earlier: &[u64],
-) -> Result<Arrays, Refusal>
-    ensures { Arranged table.now (lent held.now held_owns.now sets.now earlier.now) «record» result }
-{
-    judge_step(table, record, held, held_owns, sets, earlier)?;
-    let mut a = [0; SLOTS];
-    let mut b = [0; SLOTS];
-    let mut left = [0; SLOTS];
-    let mut rule = [0; SLOTS];
-    let mut label = [0; SLOTS];
-    let mut members = [0; SLOTS];
-    let mut ends = [0; SLOTS + 1];
-    let tree = &held[..record.nodes];
-    let count = prepare(
-        table,
-        tree,
-        &mut a,
-        &mut b,
-        &mut left,
-        &mut rule,
-        &mut label,
-        &mut members,
-        &mut ends,
-    );
-    Ok(Arrays {
-        n: 8 * record.nodes,
-        a,
-        b,
-        left,
-        rule,
-        label,
-        members,
-        ends,
-        count,
-    })
 }

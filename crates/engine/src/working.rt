@@ -1,29 +1,12 @@
-// Step and run: the rounds of an open update.
-ghost use Rattle.engine.specs.Lent.{StepLeaves, RunLeaves, RanLeaves};
+// A run: the rounds of an open update.
+ghost use Rattle.engine.specs.Lent.{RunLeaves, RanLeaves};
 
-use crate::arranging::arranged;
+use crate::arranging::Arrays;
 use circles::SLOTS;
 use refusal::Refusal;
 use update::{Record, Run};
-use update_step::{Ran, Stepped, run_in, step_in};
-
-// One step: a round of the first due circle, or done where none is due.
-pub fn step<'a>(
-    table: &'a [u64; 2657],
-    record: Record,
-    held: &'a [u8],
-    held_owns: &'a [u64],
-    sets: &mut [u64],
-    earlier: &'a [u64],
-) -> Result<Stepped, Refusal>
-    ensures { StepLeaves table.now held.now held_owns.now sets.old earlier.now «record» result sets.new }
-{
-    let arrays = arranged(table, record, held, held_owns, sets, earlier)?;
-    let (wires, ranked) = arrays.views();
-    let owns = &held_owns[..record.nodes];
-    let values = &mut [0; SLOTS];
-    Ok(step_in(table, owns, wires, ranked, earlier, record, sets, values))
-}
+use update_judge::judge_step;
+use update_step::{Ran, run_in};
 
 // A run: steps until one is done, or until as many rounds are made as the budget has. The record goes by value.
 pub fn run_record<'a>(
@@ -37,7 +20,9 @@ pub fn run_record<'a>(
 ) -> Result<Ran, Refusal>
     ensures { RanLeaves table.now held.now held_owns.now sets.old earlier.now «record» budget result sets.new }
 {
-    let arrays = arranged(table, record, held, held_owns, sets, earlier)?;
+    judge_step(table, record, held, held_owns, sets, earlier)?;
+    let mut arrays = Arrays::blank();
+    arrays.arrange(table, &held[..record.nodes]);
     let (wires, ranked) = arrays.views();
     let owns = &held_owns[..record.nodes];
     let values = &mut [0; SLOTS];
