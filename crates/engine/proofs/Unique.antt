@@ -37,6 +37,14 @@ abbrev outcome_back : Outcome → Answer
 outcome_back (round least k size closed) = Round least k size closed
 outcome_back (done circles evaluations changed) = Done circles evaluations changed
 
+abbrev answer_back : Said Outcome → Result Answer Refusal
+answer_back = call_back outcome_back
+
+answer_back_lem : (a : Result Answer Refusal) → answer_back (call_says answer_says a) ≡ a
+answer_back_lem (Ok (Round least k size closed)) = refl
+answer_back_lem (Ok (Done circles evaluations changed)) = refl
+answer_back_lem (Err r) = ap Err (number_back r)
+
 abbrev end_back : ℕ → Ending → Run
 end_back n paused = Paused n
 end_back n (finished circles evaluations changed) = Finished n circles evaluations changed

@@ -1,5 +1,5 @@
 -- In the middle of a piece: the calls so far, and that what is owed falls with the next. Assumes nothing.
-use Rattle.std.proofs.Common.{◌≡◌, ℕ, suc, ◌<◌, Bool, true, false, List, [], ◌++◌, length, drop, Result, Ok, Some, refl, subst, arith}
+use Rattle.std.proofs.Common.{◌≡◌, ℕ, suc, ◌<◌, Bool, true, false, List, [], ◌++◌, length, drop, take, Result, Ok, Option, Some, None, refl, subst, arith}
 use Rattle.refusal.specs.declared.Refusal.{Refusal}
 use Rattle.session_memory.specs.declared.State.{State}
 use Rattle.session_memory.specs.Suspended.{Suspended, owed_for}
@@ -8,7 +8,7 @@ use Rattle.session_feed.specs.Feeding.{fed_to, Feeds, FeedSays, takes, refuses}
 use Rattle.session_feed.specs.Laws as laws
 use Rattle.session_feed.specs.Laws.{Again, Calls}
 use Rattle.session_feed.proofs.Cutting.{owed_less}
-use Rattle.session_serve.specs.Serving.{Served, PieceServed}
+use Rattle.session_serve.specs.Serving.{IsPrefixLen, Served, PieceServed, NextServed}
 
 -- all calls so far left more to do
 pub record Amid (d : Suspended) (out piece : List ℕ) (d' : Suspended) (out' : List ℕ) (place : ℕ) : Type 0 where
@@ -38,3 +38,9 @@ module _ {d e : Suspended} {out piece o : List ℕ} {at : ℕ} {d' : State → S
 
   pub amid_last : f.more ≡ false → PieceServed d out piece d' out' (Some f.state)
   amid_last m = let x = served_feeds v m in record { whole = (a.count, a.text ++ x.text, laws.last a.calls refl x) }
+
+-- the next piece: n bytes have come
+pub some_served : (d : Suspended) (out : List ℕ) (d' : State → Suspended) (out' buffer : List ℕ) (r : Option State)
+    (n : ℕ) → (n ≡ 0 → ⊥) → IsPrefixLen n buffer → PieceServed d out (take n buffer) d' out' r → NextServed d out d' out' buffer r
+some_served d out d' out' buffer (Some s) n h c p = record { count = n; some = omega arith; within = c.0; served = p }
+some_served d out d' out' buffer None n h c p = record { count = n; some = tt; within = c.0; served = p }
