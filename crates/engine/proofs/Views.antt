@@ -33,7 +33,7 @@ module _ (t : List ℕ) (m : Memory) (r : Record) (e : 0 ≡ step_refusal t m r)
   open_to : Going t m r
   open_to = going t m r (sym e)
 
-  few : r.nodes ≤ 512
+  pub few : r.nodes ≤ 512
   few = open_to.footing.within.nodes
 
   pub owns_long : r.nodes ≡ length (owns_of m r.nodes)
