@@ -13,7 +13,7 @@ module _ (t : List ℕ) (m : Memory) (r : Record) (k : Going t m r) where
   tree_long : length (nodes_of m r.nodes) ≡ r.nodes
   tree_long = length-take-le r.nodes m.productions (omega (arith, k.footing.room.productions, k.footing.within.nodes))
 
-  owns_long : length (owns_of m r.nodes) ≡ r.nodes
+  pub owns_long : length (owns_of m r.nodes) ≡ r.nodes
   owns_long = length-take-le r.nodes m.owns (omega (arith, k.footing.room.owns, k.footing.within.nodes))
 
   pub sound : Held t (nodes_of m r.nodes)

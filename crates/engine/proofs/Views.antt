@@ -25,8 +25,8 @@ use Rattle.update_step.specs.Inner.Says.{StepSays, RunSays}
 use Rattle.engine.specs.declared.arranging.Arrays.{Arrays}
 use Rattle.engine.specs.Lent.{stepped, ran}
 use Rattle.engine.specs.Inner.Prepared.{Prepared, ArraysHold}
-use Rattle.engine.specs.Inner.Arrays.{Made, Ready, Viewed}
-use Rattle.engine.proofs.Arrays.{sound, arrays}
+use Rattle.engine.specs.Inner.Arrays.{ArraysLaid, Ready, Viewed}
+use Rattle.engine.proofs.Arrays.{sound, arrays, owns_long as owns_are}
 use Rattle.engine.proofs.Stepping.{step_carried, run_carried}
 
 module _ (t : List ℕ) (m : Memory) (r : Record) (e : 0 ≡ step_refusal t m r) where
@@ -37,7 +37,7 @@ module _ (t : List ℕ) (m : Memory) (r : Record) (e : 0 ≡ step_refusal t m r)
   few = open_to.footing.within.nodes
 
   pub owns_long : r.nodes ≡ length (owns_of m r.nodes)
-  owns_long = sym (length-take-le r.nodes m.owns (omega (arith, few, open_to.footing.room.owns)))
+  owns_long = sym (owns_are t m r open_to)
 
   pub tree_long : r.nodes ≡ length (nodes_of m r.nodes)
   tree_long = sym (length-take-le r.nodes m.productions (omega (arith, few, open_to.footing.room.productions)))
@@ -53,8 +53,8 @@ module _ (t : List ℕ) (m : Memory) (r : Record) (e : 0 ≡ step_refusal t m r)
     holds = rw n (arrays t m r open_to a₀ b₀ left₀ rule₀ label₀ members₀ ends₀ x.a x.b x.left x.rule x.label x.members x.ends x.count p);
   }
 
-  pub ready_made : {x y : Arrays} → Made t (nodes_of m r.nodes) x y → Ready t m r y
-  ready_made {y = y} h = ready y (omega (arith, h.slots, tree_long)) h.prepared
+  pub ready_laid : {x y : Arrays} → ArraysLaid t (nodes_of m r.nodes) x y → Ready t m r y
+  ready_laid {y = y} h = ready y (omega (arith, h.slots, tree_long)) h.prepared
 
 module _ {t : List ℕ} {m : Memory} {r : Record} {x : Arrays} {w : Wires} {k : Ranked} (z : Ready t m r x) (v : Viewed x w k) where
   held : ArraysHold t (nodes_of m r.nodes) (owns_of m r.nodes) w.n w.a.now w.b.now w.left.now w.rule.now k.label.now k.members.now k.ends.now k.count

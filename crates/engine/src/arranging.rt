@@ -1,6 +1,6 @@
 // What steps and runs go over, made anew by each call.
 ghost use Rattle.wire.specs.Inner.Turns.{Held};
-ghost use Rattle.engine.specs.Inner.Arrays.{Made, Viewed};
+ghost use Rattle.engine.specs.Inner.Arrays.{ArraysLaid, Viewed};
 
 use circles::SLOTS;
 use climb::Wires;
@@ -40,7 +40,7 @@ impl Arrays {
     // Those of a sound tree.
     pub fn arrange(&mut self, table: &[u64; 2657], tree: &[u8])
         requires { Held table.now tree.now }
-        ensures { Made table.now tree.now self.old self.new }
+        ensures { ArraysLaid table.now tree.now self.old self.new }
     {
         self.n = 8 * tree.len();
         self.count = prepare(

@@ -9,7 +9,7 @@ use Rattle.engine.specs.declared.arranging.Arrays.{Arrays}
 use Rattle.engine.specs.Inner.Prepared.{Prepared, ArraysHold}
 
 -- 4.4, 6.1: what arrays come to when those of a tree are laid into them
-pub record Made (t ns : List ℕ) (x y : Arrays) : Type 0 where
+pub record ArraysLaid (t ns : List ℕ) (x y : Arrays) : Type 0 where
   pub slots : y.n ≡ 8 * length ns
   pub prepared : Prepared t ns x.a x.b x.left x.rule x.label x.members x.ends y.a y.b y.left y.rule y.label y.members y.ends y.count
 

@@ -2,7 +2,7 @@
 use Rattle.std.proofs.Common.{refl}
 use Rattle.refusal.proofs.Distinct.{handed}
 use Rattle.engine.proofs.Stepping.{step_refused}
-use Rattle.engine.proofs.Views.{tree_long, owns_long, holds_tree, ready_made, wiring, circles, sets_lent, step_over}
+use Rattle.engine.proofs.Views.{tree_long, owns_long, holds_tree, ready_laid, wiring, circles, sets_lent, step_over}
 use Rattle.engine.proofs.steps.step.Goals as goal
 
 pub slice_bounds-arrange-end : goal.slice_bounds-arrange-end
@@ -15,19 +15,19 @@ pub slice_bounds-owns-end : goal.slice_bounds-owns-end
 slice_bounds-owns-end c = owns_long _ _ _ c.in_ok-judge_step.ensures
 
 pub step_in-requires-clause-within_limits : goal.step_in-requires-clause-within_limits
-step_in-requires-clause-within_limits c = (ready_made _ _ _ c.in_ok-judge_step.ensures c.arrange.ensures).going.footing.within
+step_in-requires-clause-within_limits c = (ready_laid _ _ _ c.in_ok-judge_step.ensures c.arrange.ensures).going.footing.within
 
 pub step_in-requires-clause-wiring : goal.step_in-requires-clause-wiring
-step_in-requires-clause-wiring c = wiring (ready_made _ _ _ c.in_ok-judge_step.ensures c.arrange.ensures) c.views.ensures
+step_in-requires-clause-wiring c = wiring (ready_laid _ _ _ c.in_ok-judge_step.ensures c.arrange.ensures) c.views.ensures
 
 pub step_in-requires-clause-circles : goal.step_in-requires-clause-circles
-step_in-requires-clause-circles c = circles (ready_made _ _ _ c.in_ok-judge_step.ensures c.arrange.ensures) c.views.ensures
+step_in-requires-clause-circles c = circles (ready_laid _ _ _ c.in_ok-judge_step.ensures c.arrange.ensures) c.views.ensures
 
 pub step_in-requires-clause-lent : goal.step_in-requires-clause-lent
-step_in-requires-clause-lent c = sets_lent (ready_made _ _ _ c.in_ok-judge_step.ensures c.arrange.ensures) c.views.ensures _ refl
+step_in-requires-clause-lent c = sets_lent (ready_laid _ _ _ c.in_ok-judge_step.ensures c.arrange.ensures) c.views.ensures _ refl
 
 pub returns : goal.returns
-returns c = step_over (ready_made _ _ _ c.in_ok-judge_step.ensures c.arrange.ensures) c.views.ensures _ _ c.step_in.ensures
+returns c = step_over (ready_laid _ _ _ c.in_ok-judge_step.ensures c.arrange.ensures) c.views.ensures _ _ c.step_in.ensures
 
 pub returns-in_err-judge_step : goal.returns-in_err-judge_step
 returns-in_err-judge_step c = rw (handed _ _ c.from_residual.ensures.1) (step_refused _ _ _ _ c.in_err-judge_step.ensures)
